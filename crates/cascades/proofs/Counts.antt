@@ -1,0 +1,91 @@
+-- Every expansion, with any choice of spare lines, has as many gates as the table says. Assumes nothing.
+use mathlib.Core.Path.{_≡_, refl, ap, _∙_}
+use mathlib.Core.List.{List, [], _∷_}
+use Prim.Native.Nat.{ℕ, zero, suc, _+_, _-_, _*_, _/_, _≤_, _<_}
+use native.Mathlib.Omega.{arith}
+use lib.Dec.{eqb, eqb→eq}
+use lib.ListN.{length, getD, length-append, length-take, length-drop}
+use Rattle.gates.specs.declared.Gate.{Gate}
+use Rattle.gates.specs.Inverse.{inverse, inverted}
+use Rattle.cascades.specs.Expansion.{v, v⁺, _⨾_, joined, c0, c1, Expands, no-control, one-control, two-controls, more-controls, spare, expand, expansion, counts}
+use Rattle.cascades.proofs.Every.{at}
+
+-- ---- lengths
+
+length-inverse : (c : List Gate) → length (inverse c) ≡ length c
+unfolding inverse
+length-inverse [] = refl
+length-inverse (g ∷ c) = length-append (inverse c) (inverted g ∷ []) ∙ omega (arith, length-inverse c)
+
+length-then : (a b : List Gate) → length (a ⨾ b) ≡ length a + length b
+unfolding _⨾_
+length-then a b = length-append a b
+
+length-joined : (s t : ℕ) (m l : List Gate) → length (joined s t m l) ≡ 4 + 2 * (length m + length l)
+unfolding joined
+length-joined s t m l =
+    let a = v s t in let b = v⁺ s t in let m′ = inverse m in let l′ = inverse l in
+    omega (arith, length-then a (m ⨾ b ⨾ l ⨾ a ⨾ m′ ⨾ b ⨾ l′), length-then m (b ⨾ l ⨾ a ⨾ m′ ⨾ b ⨾ l′), length-then b (l ⨾ a ⨾ m′ ⨾ b ⨾ l′), length-then l (a ⨾ m′ ⨾ b ⨾ l′), length-then a (m′ ⨾ b ⨾ l′), length-then m′ (b ⨾ l′), length-then b l′, length-inverse m, length-inverse l)
+
+length-c0 : (cs : List ℕ) → length (c0 cs) ≡ length cs / 2
+length-c0 cs = omega (arith, length-take (length cs / 2) cs)
+
+length-c1 : (cs : List ℕ) → length (c1 cs) ≡ length cs - length cs / 2
+length-c1 cs = length-drop (length cs / 2) cs
+
+-- ---- how many gates, by the number of controls
+
+-- the first argument bounds the recursion: more than the number of controls
+unfoldable size : ℕ → ℕ → ℕ
+size zero k = 0
+size (suc f) zero = 1
+size (suc f) (suc zero) = 1
+size (suc f) (suc (suc zero)) = 5
+size (suc f) (suc (suc (suc k))) = 4 + 2 * (size f ((3 + k) / 2) + size f (3 + k - (3 + k) / 2))
+
+-- three or more controls
+size-more : (f k : ℕ) → 3 ≤ k → size (suc f) k ≡ 4 + 2 * (size f (k / 2) + size f (k - k / 2))
+unfolding size
+size-more f zero h = absurd (omega arith)
+size-more f (suc zero) h = absurd (omega arith)
+size-more f (suc (suc zero)) h = absurd (omega arith)
+size-more f (suc (suc (suc k))) h = let e : suc (suc (suc k)) ≡ 3 + k = omega arith in rw e
+
+-- two halves of this size make a gate of this size
+size-joined : (f s t : ℕ) (cs : List ℕ) (m0 m1 : List Gate) → 3 ≤ length cs → length m0 ≡ size f (length (c0 cs)) → length m1 ≡ size f (length (c1 cs)) → length (joined s t m0 m1) ≡ size (suc f) (length cs)
+size-joined f s t cs m0 m1 h e0 e1 = length-joined s t m0 m1 ∙ rw (e0, e1, length-c0 cs, length-c1 cs, size-more f (length cs) h)
+
+expands-size : (f n : ℕ) {cs : List ℕ} {t : ℕ} {c : List Gate} → length cs < f → Expands n cs t c → length c ≡ size f (length cs)
+unfolding size
+expands-size zero n h e = absurd (omega arith)
+expands-size (suc f) n h (no-control t) = refl
+expands-size (suc f) n h (one-control a t) = refl
+expands-size (suc f) n h (two-controls a b t) = unfold _⨾_ in refl
+expands-size (suc f) n h (more-controls {cs} {t} {m0} {m1} s k sn out e0 e1) =
+    size-joined f s t cs m0 m1 k (expands-size f n (omega (arith, length-c0 cs)) e0) (expands-size f n (omega (arith, length-c1 cs)) e1)
+
+-- the lowest lines, also where there is none to spare
+expand-size : (f n : ℕ) (cs : List ℕ) (t : ℕ) → length (expand f n cs t) ≡ size f (length cs)
+unfolding expand size
+expand-size zero n cs t = refl
+expand-size (suc f) n [] t = refl
+expand-size (suc f) n (a ∷ []) t = refl
+expand-size (suc f) n (a ∷ b ∷ []) t = unfold _⨾_ in refl
+expand-size (suc f) n (a ∷ b ∷ c ∷ cs) t =
+    let l : List ℕ = a ∷ b ∷ c ∷ cs in
+    let s : ℕ = spare n 0 (t ∷ l) in
+    size-joined f s t l (expand f n (c0 l) s) (expand f n (c1 l) s) (omega arith) (expand-size f n (c0 l) s) (expand-size f n (c1 l) s)
+
+-- ---- the table
+
+counted : (k : ℕ) → k ≤ 15 → size (suc k) k ≡ getD counts k 0
+unfolding size
+counted k h = eqb→eq (size (suc k) k) (getD counts k 0) (at (λ i x. eqb (size (suc i) i) x) counts tt k (omega arith))
+
+-- "Gates for k = 0 to 15"
+pub expands-count : (n : ℕ) {cs : List ℕ} {t : ℕ} {c : List Gate} → Expands n cs t c → length cs ≤ 15 → length c ≡ getD counts (length cs) 0
+expands-count n {cs} e h = expands-size (suc (length cs)) n (omega arith) e ∙ counted (length cs) h
+
+pub expansion-count : (n : ℕ) (cs : List ℕ) (t : ℕ) → length cs ≤ 15 → length (expansion n cs t) ≡ getD counts (length cs) 0
+unfolding expansion
+expansion-count n cs t h = expand-size (suc (length cs)) n cs t ∙ counted (length cs) h

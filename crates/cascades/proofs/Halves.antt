@@ -1,0 +1,77 @@
+-- The lines that an mct gate does not name, and the two smaller gates of a gate with three or more controls. Assumes nothing.
+use mathlib.Core.Path.{_≡_, refl, sym, ap, _∙_}
+use mathlib.Core.Logic.{_≢_}
+use mathlib.Core.Bool.{true, false}
+use mathlib.Core.List.{List, [], _∷_, _++_}
+use Prim.Native.Nat.{ℕ, _/_, _≤_, _<_}
+use native.Mathlib.Omega.{arith}
+use lib.Dec.{eqb}
+use lib.ListN.{length, take, drop, take-append-drop}
+use Rattle.meaning.specs.Pattern.{has, distinct}
+use Rattle.meaning.proofs.Flips.{distinct-append, has-append, neither, eqb-false, eqb-other, eqb-same}
+use Rattle.cascades.specs.Expansion.{c0, c1, Expandable}
+use Rattle.cascades.specs.Cascade.{Controlled, Below, OnLines, AllOnLines, AllExpandable}
+
+-- ---- lines that a list has not
+
+pub out-cons : (j c : ℕ) (cs : List ℕ) → has j (c ∷ cs) ≡ false → (c ≢ j) × (has j cs ≡ false)
+unfolding has
+out-cons j c cs e = let u = neither (eqb j c) (has j cs) e in ((λ r. eqb-false j c (u .0) (sym r)), u .1)
+
+pub cons-out : (j c : ℕ) (cs : List ℕ) → c ≢ j → has j cs ≡ false → has j (c ∷ cs) ≡ false
+unfolding has
+cons-out j c cs n e = rw (eqb-other j c (λ r. n (sym r)), e)
+
+pub out-append : (j : ℕ) (c d l : List ℕ) → c ++ d ≡ l → has j l ≡ false → (has j c ≡ false) × (has j d ≡ false)
+out-append j c d l e h = neither (has j c) (has j d) (sym (has-append j c d) ∙ ap (has j) e ∙ h)
+
+pub distinct-two : (a b : ℕ) → distinct (a ∷ b ∷ []) ≡ true → a ≢ b
+unfolding distinct has
+distinct-two a b e r = let q : eqb a b ≡ true = rw r (eqb-same b) in let z : _≡_ {A = ℕ} 0 1 = cc in omega arith
+
+module _ (n : ℕ) where
+  -- ---- the smaller gates
+
+  below-left : (c d : List ℕ) → Below n (c ++ d) → Below n c
+  unfolding Below
+  below-left [] d b = tt
+  below-left (a ∷ c) d b = (b .0, below-left c d (b .1))
+
+  below-right : (c d : List ℕ) → Below n (c ++ d) → Below n d
+  unfolding Below
+  below-right [] d b = b
+  below-right (a ∷ c) d b = below-right c d (b .1)
+
+  -- both smaller gates, on the spare line s, are on n lines
+  pub halves-on-lines : (s : ℕ) {cs : List ℕ} {t : ℕ} → OnLines n cs t → s < n → has s (t ∷ cs) ≡ false → OnLines n (c0 cs) s × OnLines n (c1 cs) s
+  halves-on-lines s {cs} {t} w sn out =
+      let e : c0 cs ++ c1 cs ≡ cs = take-append-drop (length cs / 2) cs in
+      let so = out-append s (c0 cs) (c1 cs) cs e (out-cons s t cs out .1) in
+      let apart = distinct-append (c0 cs) (c1 cs) (ap distinct e ∙ w .apart) in
+      let b : Below n (c0 cs ++ c1 cs) = rw e (w .below) in (
+        record { apart = apart .0; other = so .0; line = sn; below = below-left (c0 cs) (c1 cs) b },
+        record { apart = apart .1; other = so .1; line = sn; below = below-right (c0 cs) (c1 cs) b },
+      )
+
+  -- and each has a line to spare, the target of the larger gate
+  pub halves-expandable : (s : ℕ) {cs : List ℕ} {t : ℕ} → Expandable n cs t → s < n → has s (t ∷ cs) ≡ false → Expandable n (c0 cs) s × Expandable n (c1 cs) s
+  halves-expandable s {cs} {t} w sn out =
+      let e : c0 cs ++ c1 cs ≡ cs = take-append-drop (length cs / 2) cs in
+      let named = out-cons s t cs out in
+      let so = out-append s (c0 cs) (c1 cs) cs e (named .1) in
+      let to = out-append t (c0 cs) (c1 cs) cs e (w .other) in
+      let apart = distinct-append (c0 cs) (c1 cs) (ap distinct e ∙ w .apart) in
+      let st : s ≢ t = λ r. named .0 (sym r) in (
+        record { apart = apart .0; other = so .0; line = sn; spare = λ k. (t, w .line, cons-out t s (c0 cs) st (to .0)) },
+        record { apart = apart .1; other = so .1; line = sn; spare = λ k. (t, w .line, cons-out t s (c1 cs) st (to .1)) },
+      )
+
+  -- ---- gates that can be expanded are on the n lines
+
+  pub on-lines : {cs : List ℕ} {t : ℕ} → Expandable n cs t → Below n cs → OnLines n cs t
+  on-lines w b = record { apart = w .apart; other = w .other; line = w .line; below = b }
+
+  pub all-on-lines : (gs : List Controlled) → AllExpandable n gs → AllOnLines n gs
+  unfolding AllExpandable AllOnLines
+  all-on-lines [] w = tt
+  all-on-lines (g ∷ gs) w = (on-lines (w .0) (w .1), all-on-lines gs (w .2))

@@ -1,0 +1,10 @@
+pub mod Halves
+pub mod Spare
+pub mod Lowest
+pub mod Valid
+pub mod Acting
+pub mod Expanding
+pub mod Bases
+pub mod Realises
+pub mod Every
+pub mod Counts

@@ -1,0 +1,49 @@
+-- The rule of the lowest line is one choice of spare lines, for every gate that has a line to spare. Assumes nothing.
+use mathlib.Core.Path.{_≡_, refl}
+use mathlib.Core.Logic.{_≢_}
+use mathlib.Core.Bool.{Bool, true, false, cond}
+use mathlib.Core.List.{List, [], _∷_}
+use Prim.Native.Nat.{ℕ, zero, suc, _+_, _/_, _≤_, _<_}
+use native.Mathlib.Omega.{arith}
+use lib.ListN.{length, take, drop, length-take, length-drop}
+use Rattle.meaning.specs.Pattern.{has}
+use Rattle.cascades.specs.Expansion.{c0, c1, Expands, no-control, one-control, two-controls, more-controls, spare, expand, expansion, Expandable}
+use Rattle.cascades.specs.Cascade.{Controlled, expand-all, ExpandsAll, no-gate, next-gate, AllExpandable}
+use Rattle.cascades.proofs.Halves.{halves-expandable}
+
+-- the lowest spare line is spare, and is one of the lines, if some line is spare
+pub spare-is : (m i : ℕ) (l : List ℕ) (j : ℕ) → i ≤ j → j < i + m → has j l ≡ false → (has (spare m i l) l ≡ false) × (spare m i l < i + m)
+unfolding spare
+spare-is zero i l j h k e = absurd (omega arith)
+spare-is (suc m) i l j h k e = go (has i l) refl (λ r. spare-is m (suc i) l j r (omega arith) e)
+  where
+    go : (b : Bool) → has i l ≡ b → (suc i ≤ j → (has (spare m (suc i) l) l ≡ false) × (spare m (suc i) l < suc i + m)) → (has (cond b (spare m (suc i) l) i) l ≡ false) × (cond b (spare m (suc i) l) i < i + suc m)
+    go true q rest = let n : i ≢ j = λ r. (let z : _≡_ {A = ℕ} 0 1 = cc in omega arith) in let u = rest (omega arith) in (u .0, omega arith)
+    go false q rest = (q, omega arith)
+
+module _ (n : ℕ) where
+  expand-expands : (f : ℕ) (cs : List ℕ) (t : ℕ) → length cs < f → Expandable n cs t → Expands n cs t (expand f n cs t)
+  unfolding expand
+  expand-expands zero cs t h w = absurd (omega arith)
+  expand-expands (suc f) [] t h w = no-control t
+  expand-expands (suc f) (a ∷ []) t h w = one-control a t
+  expand-expands (suc f) (a ∷ b ∷ []) t h w = two-controls a b t
+  expand-expands (suc f) (a ∷ b ∷ c ∷ cs) t h w =
+      let l : List ℕ = a ∷ b ∷ c ∷ cs in
+      let s : ℕ = spare n 0 (t ∷ l) in
+      let j = w .spare (omega arith) in
+      let s-is = spare-is n 0 (t ∷ l) (j .0) (omega arith) (omega (arith, j .1)) (j .2) in
+      let sn : s < n = omega (arith, s-is .1) in
+      let halves = halves-expandable n s w sn (s-is .0) in
+      more-controls {cs = l} s (omega arith) sn (s-is .0)
+      (expand-expands f (c0 l) s (omega (arith, length-take (length l / 2) l)) (halves .0))
+      (expand-expands f (c1 l) s (omega (arith, length-drop (length l / 2) l)) (halves .1))
+
+  pub expansion-expands : (cs : List ℕ) (t : ℕ) → Expandable n cs t → Expands n cs t (expansion n cs t)
+  unfolding expansion
+  expansion-expands cs t w = expand-expands (suc (length cs)) cs t (omega arith) w
+
+  pub expand-all-expands : (gs : List Controlled) → AllExpandable n gs → ExpandsAll n gs (expand-all n gs)
+  unfolding expand-all AllExpandable
+  expand-all-expands [] w = no-gate
+  expand-all-expands (g ∷ gs) w = next-gate (expansion-expands (g .controls) (g .target) (w .0)) (expand-all-expands gs (w .2))

@@ -1,0 +1,142 @@
+-- Circuits as lists of numbers: there and back, parts of such lists, more lines, and dictionary order. Assumes nothing.
+use mathlib.Core.Path.{_≡_, refl, sym, ap, _∙_}
+use mathlib.Core.Logic.{_↔_, _⊎_, inl, inr}
+use mathlib.Core.List.{List, [], _∷_, _++_, map}
+use Prim.Native.Nat.{ℕ, zero, suc, _≤_, _<_}
+use native.Mathlib.Omega.{arith}
+use lib.ListN.{length, length-map, getD, take, drop, set}
+use Rattle.gates.specs.declared.Gate.{Gate}
+use Rattle.gates.specs.Circuit.{Valid, valid-not, valid-powered, AllValid}
+use Rattle.gates.specs.Order.{_≼_, none, less, same}
+use Rattle.gates.specs.Code.{code, gate, gates, Code, AllCodes}
+use Rattle.gates.proofs.Codes.{gate-code, code-code, code-injective, earlier-code}
+
+-- ---- the gates of a list, part by part
+
+pub length-gates : (l : List ℕ) → length (gates l) ≡ length l
+length-gates l = length-map l gate
+
+pub gates-append : (l m : List ℕ) → gates (l ++ m) ≡ gates l ++ gates m
+gates-append [] m = refl
+gates-append (k ∷ l) m = ap (λ w. gate k ∷ w) (gates-append l m)
+
+pub gates-take : (i : ℕ) (l : List ℕ) → gates (take i l) ≡ take i (gates l)
+gates-take zero l = refl
+gates-take (suc i) [] = refl
+gates-take (suc i) (k ∷ l) = ap (λ w. gate k ∷ w) (gates-take i l)
+
+pub gates-drop : (i : ℕ) (l : List ℕ) → gates (drop i l) ≡ drop i (gates l)
+gates-drop zero l = refl
+gates-drop (suc i) [] = refl
+gates-drop (suc i) (k ∷ l) = gates-drop i l
+
+pub gates-set : (l : List ℕ) (i k : ℕ) → gates (set l i k) ≡ set (gates l) i (gate k)
+gates-set [] i k = refl
+gates-set (j ∷ l) zero k = refl
+gates-set (j ∷ l) (suc i) k = ap (λ w. gate j ∷ w) (gates-set l i k)
+
+module _ (n : ℕ) where
+  -- ---- there and back
+
+  pub all-valid-gates : (l : List ℕ) → AllCodes n l → AllValid n (gates l)
+  all-valid-gates [] h = tt
+  all-valid-gates (k ∷ l) h = (h .0 .valid, all-valid-gates l (h .1))
+
+  pub code-gates : (l : List ℕ) → AllCodes n l → map code (gates l) ≡ l
+  code-gates [] h = refl
+  code-gates (k ∷ l) h = rw (h .0 .exact, code-gates l (h .1))
+
+  pub all-codes-code : (c : List Gate) → n ≤ 32 → AllValid n c → AllCodes n (map code c)
+  all-codes-code [] h f = tt
+  all-codes-code (g ∷ c) h f = (code-code h (f .0), all-codes-code c h (f .1))
+
+  pub gates-code : (c : List Gate) → n ≤ 32 → AllValid n c → gates (map code c) ≡ c
+  gates-code [] h f = refl
+  gates-code (g ∷ c) h f = rw (gate-code h (f .0), gates-code c h (f .1))
+
+  -- lists of numbers with the same gates are equal
+  pub gates-injective : (l m : List ℕ) → AllCodes n l → AllCodes n m → gates l ≡ gates m → l ≡ m
+  gates-injective l m h k e = sym (code-gates l h) ∙ ap (map code) e ∙ code-gates m k
+
+  -- ---- parts of lists of numbers
+
+  pub all-codes-append : (l m : List ℕ) → AllCodes n l → AllCodes n m → AllCodes n (l ++ m)
+  all-codes-append [] m h k = k
+  all-codes-append (j ∷ l) m h k = (h .0, all-codes-append l m (h .1) k)
+
+  pub all-codes-left : (l m : List ℕ) → AllCodes n (l ++ m) → AllCodes n l
+  all-codes-left [] m h = tt
+  all-codes-left (j ∷ l) m h = (h .0, all-codes-left l m (h .1))
+
+  pub all-codes-right : (l m : List ℕ) → AllCodes n (l ++ m) → AllCodes n m
+  all-codes-right [] m h = h
+  all-codes-right (j ∷ l) m h = all-codes-right l m (h .1)
+
+  pub all-codes-take : (i : ℕ) (l : List ℕ) → AllCodes n l → AllCodes n (take i l)
+  all-codes-take zero l h = tt
+  all-codes-take (suc i) [] h = tt
+  all-codes-take (suc i) (k ∷ l) h = (h .0, all-codes-take i l (h .1))
+
+  pub all-codes-drop : (i : ℕ) (l : List ℕ) → AllCodes n l → AllCodes n (drop i l)
+  all-codes-drop zero l h = h
+  all-codes-drop (suc i) [] h = tt
+  all-codes-drop (suc i) (k ∷ l) h = all-codes-drop i l (h .1)
+
+  pub all-codes-set : (l : List ℕ) (i k : ℕ) → AllCodes n l → Code n k → AllCodes n (set l i k)
+  all-codes-set [] i k h w = tt
+  all-codes-set (j ∷ l) zero k h w = (w, h .1)
+  all-codes-set (j ∷ l) (suc i) k h w = (h .0, all-codes-set l i k (h .1) w)
+
+  pub code-at : (l : List ℕ) (i d : ℕ) → i < length l → AllCodes n l → Code n (getD l i d)
+  code-at [] i d b h = absurd (omega arith)
+  code-at (k ∷ l) zero d b h = h .0
+  code-at (k ∷ l) (suc i) d b h = code-at l i d (omega arith) (h .1)
+
+-- ---- what is valid on n lines is valid on more
+
+pub valid-more : {n m : ℕ} {g : Gate} → n ≤ m → Valid n g → Valid m g
+valid-more h (valid-not {t} a) = valid-not {t = t} (omega arith)
+valid-more h (valid-powered {p} {c} {t} a b i j d) = valid-powered {c = c} {t = t} a b (omega arith) (omega arith) d
+
+pub code-more : {n m k : ℕ} → n ≤ m → Code n k → Code m k
+code-more h w = record { valid = valid-more h (w .valid); exact = w .exact }
+
+module _ (n m : ℕ) where
+  pub all-valid-more : (c : List Gate) → n ≤ m → AllValid n c → AllValid m c
+  all-valid-more [] h f = tt
+  all-valid-more (g ∷ c) h f = (valid-more h (f .0), all-valid-more c h (f .1))
+
+  pub all-codes-more : (l : List ℕ) → n ≤ m → AllCodes n l → AllCodes m l
+  all-codes-more [] h f = tt
+  all-codes-more (k ∷ l) h f = (code-more h (f .0), all-codes-more l h (f .1))
+
+-- ---- dictionary order
+
+-- the dictionary order of lists of numbers: the first is equal to the second, or comes before it
+pub data Ordered : List ℕ → List ℕ → Type 0 where
+  ordered-nil : {m : List ℕ} → Ordered [] m
+  ordered-less : {j k : ℕ} {l m : List ℕ} → j < k → Ordered (j ∷ l) (k ∷ m)
+  ordered-same : {k : ℕ} {l m : List ℕ} → Ordered l m → Ordered (k ∷ l) (k ∷ m)
+
+ordered-cons : {j k : ℕ} {l m : List ℕ} → Ordered (j ∷ l) (k ∷ m) → (j < k) ⊎ ((j ≡ k) × Ordered l m)
+ordered-cons (ordered-less i) = inl i
+ordered-cons (ordered-same o) = inr (refl, o)
+
+module _ (n : ℕ) where
+  ordered-code : {c d : List Gate} → n ≤ 32 → AllValid n c → AllValid n d → c ≼ d → Ordered (map code c) (map code d)
+  ordered-code b f h none = ordered-nil
+  ordered-code b f h (less e) = ordered-less (earlier-code b (f .0) (h .0) .0 e)
+  ordered-code b f h (same o) = ordered-same (ordered-code b (f .1) (h .1) o)
+
+  code-ordered : (c d : List Gate) → n ≤ 32 → AllValid n c → AllValid n d → Ordered (map code c) (map code d) → c ≼ d
+  code-ordered [] d b f h o = none
+  code-ordered (g ∷ c) [] b f h o = elim o [ ]
+  code-ordered (g ∷ c) (k ∷ d) b f h o = go (λ q. code-ordered c d b (f .1) (h .1) q) (ordered-cons o)
+    where
+      go : (Ordered (map code c) (map code d) → c ≼ d) → (code g < code k) ⊎ ((code g ≡ code k) × Ordered (map code c) (map code d)) → (g ∷ c) ≼ (k ∷ d)
+      go ih (inl l) = less (earlier-code b (f .0) (h .0) .1 l)
+      go ih (inr q) = rw (code-injective b (f .0) (h .0) (q .0)) (same (ih (q .1)))
+
+  -- the dictionary order of circuits is that of their lists of numbers
+  pub dictionary-code : (c d : List Gate) → n ≤ 32 → AllValid n c → AllValid n d → (c ≼ d) ↔ Ordered (map code c) (map code d)
+  dictionary-code c d b f h = (λ o. ordered-code b f h o, λ o. code-ordered c d b f h o)

@@ -1,0 +1,16 @@
+pub mod Sites
+pub mod Merge
+pub mod Push
+pub mod Normal
+pub mod Same
+pub mod Dictionary
+pub mod Reach
+pub mod Chains
+pub mod Theorem
+pub mod ReducedLists
+pub mod Joins
+pub mod Inverses
+pub mod Examples
+pub mod Scan
+pub mod Codes
+pub mod CodeLists

@@ -1,0 +1,4 @@
+pub mod One
+pub mod Demands
+pub mod Numbers
+pub mod Table

@@ -1,0 +1,138 @@
+-- The starred examples hold. Assumes nothing.
+use mathlib.Core.Path.{_≡_, refl, sym, ap, _∙_, subst}
+use mathlib.Core.Bool.{Bool, true, false, cond, not, _&&_}
+use mathlib.Core.List.{List, [], _∷_, _++_}
+use Prim.Native.Nat.{ℕ, _≤_, _<_, _-_}
+use Prim.Native.String.{String}
+use native.Mathlib.Omega.{arith}
+use native.Mathlib.Decide.{ℕ-discrete, decLt}
+use lib.ListN.{length, take, drop}
+use lib.Dec.{ltb, eqb}
+use borrow.Author.Tests.{le-ltb, eqb-true, not-true}
+use Rattle.gates.specs.declared.Gate.{Gate}
+use Rattle.gates.specs.Circuit as C
+use Rattle.gates.specs.Circuit.{slot, power, powered}
+use Rattle.gates.specs.Reduced.{Reduced}
+use Rattle.meaning.specs.Pattern.{has}
+use Rattle.gates.specs.Inverse.{inverse, inverted}
+use Rattle.cascades.specs.Expansion.{spare, _⨾_, joined, expand, expansion}
+use Rattle.meaning.proofs.Flips.{both}
+use Rattle.gates.proofs.Sites.{order-targets-equal, order-targets, order, passes-dec}
+use Rattle.gates.proofs.Merge.{merged}
+use Rattle.gates.proofs.Push.{free-dec, turn-of, turn, place, push}
+use Rattle.gates.proofs.Theorem.{nf, nf-reduced, reduced-unique}
+use Rattle.text.specs.declared.Refusal.{Refusal}
+use Rattle.text.specs.declared.Head.{Head}
+use Rattle.text.specs.Refusals.{number-of}
+use Rattle.text.specs.declared.Refusal.the-variants.{Overlong, ShortList, NoSpare, ShortAnswer}
+use Rattle.text.specs.Text.{bytes, digits, spaced, one, two, word, render, rendered, circuit-text}
+use Rattle.text.specs.Reading as R
+use Rattle.text.specs.Reading.{strip, second, num, tail, pair, list, many, lines-body, not-body, mct-body, powered-body, parse, whole, read, longer, cut}
+use Rattle.text.specs.Judging as J
+use Rattle.text.specs.Judging.{Kind, cascade, circuit, Judged, turned-away, accepted, belongs, most, any-from, rising, first, head-rules, rules, or-else, judge-lines, judge-text, read-all, judge}
+use Rattle.jobs.specs.Jobs.{Job, mapping, reducing, quoting, takes, Entry, Exit, refusal, judged, judged-text, written, answered, Says}
+use Rattle.jobs.specs.Examples.{typed, Answer, text, gates, away, Row, gives, expands, Shows, room, Holds, All, table}
+use Rattle.jobs.proofs.One.{judged-accepted, passed-valid}
+use Rattle.jobs.proofs.Demands.{says-accepted, says-turned-away, take-front}
+
+-- rules 1 and 2 let a short text and a long list pass
+judged-is : (k : Kind) (e : Entry) (s : List ℕ) → e .text ≡ s → ltb 60000 (length s) ≡ false → 4096 ≤ length (e .list) → judged k e ≡ judge k s
+unfolding judged judged-text
+judged-is k e s q h l = rw (q, h, le-ltb (length (e .list)) 4096 l)
+
+-- what a job answers where its text is accepted
+answer-is : (j : Job) (e : Entry) (x : Exit) (h : Head) (c : List Gate) → judged (takes j) e ≡ accepted h c → Says j e x → x ≡ answered j e h (nf c)
+answer-is j e x h c p y =
+    let w = says-accepted j e x y p in
+    w .2 ∙ ap (answered j e h) (reduced-unique (h .lines) (w .1) (nf-reduced (h .lines) c (passed-valid (judged-accepted (takes j) e p))))
+
+false-true : false ≡ true → ⊥
+false-true e = let z : _≡_ {A = ℕ} 0 1 = cc in omega arith
+
+text-shown : (e : Entry) (x : Exit) (r : List Gate) (s : List ℕ) → length s ≤ length (e .area) → x ≡ written e r s → (x .number ≡ 0) × (take (x .count) (x .area) ≡ s)
+unfolding written
+text-shown e x r s h q = let z = rw (le-ltb (length (e .area)) (length s) h) at q in
+    (ap (λ (y : Exit). y .number) z, ap (λ (y : Exit). take (y .count) (y .area)) z ∙ take-front s (drop (length s) (e .area)))
+
+-- ---- a row is tested by computing: its text is judged, and the normal form is compared
+
+abbrev same : List ℕ → List ℕ → Bool
+same [] [] = true
+same [] (b ∷ t) = false
+same (a ∷ s) [] = false
+same (a ∷ s) (b ∷ t) = eqb a b && same s t
+
+same-is : (s t : List ℕ) → same s t ≡ true → s ≡ t
+same-is [] [] e = refl
+same-is [] (b ∷ t) e = absurd (false-true e)
+same-is (a ∷ s) [] e = absurd (false-true e)
+same-is (a ∷ s) (b ∷ t) e = let u = both (eqb a b) (same s t) e in let x = eqb-true a b (u .0) in let y = same-is s t (u .1) in cc
+
+unfoldable answers : Job → ℕ → List Gate → Answer → Bool
+answers mapping n r (text out) = same (circuit-text n r) (typed out)
+answers mapping n r (gates m) = false
+answers mapping n r (away m l) = false
+answers reducing n r (text out) = same (circuit-text n r) (typed out)
+answers reducing n r (gates m) = false
+answers reducing n r (away m l) = false
+answers quoting n r (text out) = false
+answers quoting n r (gates m) = eqb (length r) m
+answers quoting n r (away m l) = false
+
+unfoldable fits : Job → Judged → Answer → Bool
+fits j (accepted h c) a = answers j (h .lines) (nf c) a
+fits j (turned-away r l) (text out) = false
+fits j (turned-away r l) (gates m) = false
+fits j (turned-away r l) (away m k) = eqb (number-of r) m && eqb l k
+
+unfoldable test : Row → Bool
+test (gives j ls a) = not (ltb 60000 (length (typed ls))) && fits j (judge (takes j) (typed ls)) a
+test (expands n cs t s m) = eqb (spare n 0 (t ∷ cs)) s && eqb (length (expansion n cs t)) m
+
+unfoldable tests : List Row → Bool
+tests [] = true
+tests (r ∷ rs) = test r && tests rs
+
+-- ---- what passes the test holds
+
+answers-shown : (j : Job) (e : Entry) (x : Exit) (h : Head) (r : List Gate) (a : Answer) → room a ≤ length (e .area) → x ≡ answered j e h r → answers j (h .lines) r a ≡ true → Shows a x
+unfolding answers Shows room answered
+answers-shown mapping e x h r (text out) m z t = text-shown e x r (typed out) m (rw (same-is (circuit-text (h .lines) r) (typed out) t) at z)
+answers-shown mapping e x h r (gates k) m z t = absurd (false-true t)
+answers-shown mapping e x h r (away k l) m z t = absurd (false-true t)
+answers-shown reducing e x h r (text out) m z t = text-shown e x r (typed out) m (rw (same-is (circuit-text (h .lines) r) (typed out) t) at z)
+answers-shown reducing e x h r (gates k) m z t = absurd (false-true t)
+answers-shown reducing e x h r (away k l) m z t = absurd (false-true t)
+answers-shown quoting e x h r (text out) m z t = absurd (false-true t)
+answers-shown quoting e x h r (gates k) m z t = (ap (λ (w : Exit). w .number) z, ap (λ (w : Exit). w .count) z ∙ eqb-true (length r) k t)
+answers-shown quoting e x h r (away k l) m z t = absurd (false-true t)
+
+fits-shown : (j : Job) (e : Entry) (x : Exit) (d : Judged) (a : Answer) → judged (takes j) e ≡ d → room a ≤ length (e .area) → Says j e x → fits j d a ≡ true → Shows a x
+unfolding fits Shows refusal
+fits-shown j e x (accepted h c) a p m y t = answers-shown j e x h (nf c) a m (answer-is j e x h c p y) t
+fits-shown j e x (turned-away r l) (text out) p m y t = absurd (false-true t)
+fits-shown j e x (turned-away r l) (gates k) p m y t = absurd (false-true t)
+fits-shown j e x (turned-away r l) (away k i) p m y t =
+    let z = says-turned-away j e x y p in
+    let u = both (eqb (number-of r) k) (eqb l i) t in
+    (ap (λ (w : Exit). w .number) z ∙ eqb-true (number-of r) k (u .0), ap (λ (w : Exit). w .line) z ∙ eqb-true l i (u .1))
+
+test-holds : (r : Row) → test r ≡ true → Holds r
+unfolding test Holds
+test-holds (gives j ls a) t = λ e x q l m y.
+    let u = both (not (ltb 60000 (length (typed ls)))) (fits j (judge (takes j) (typed ls)) a) t in
+    fits-shown j e x (judge (takes j) (typed ls)) a (judged-is (takes j) e (typed ls) q (not-true (ltb 60000 (length (typed ls))) (u .0)) l) m y (u .1)
+test-holds (expands n cs t s m) h = let u = both (eqb (spare n 0 (t ∷ cs)) s) (eqb (length (expansion n cs t)) m) h in (eqb-true (spare n 0 (t ∷ cs)) s (u .0), eqb-true (length (expansion n cs t)) m (u .1))
+
+tests-hold : (rs : List Row) → tests rs ≡ true → All rs
+unfolding tests All
+tests-hold [] t = tt
+tests-hold (r ∷ rs) t = let u = both (test r) (tests rs) t in (test-holds r (u .0), tests-hold rs (u .1))
+
+pass : tests table ≡ true
+unfolding answers fits test tests typed takes number-of has inverse inverted spare _⨾_ joined expand expansion strip second num tail pair R.control R.controls list many lines-body not-body mct-body powered-body parse whole read longer cut J.controls J.target J.gates belongs most any-from rising first head-rules rules or-else judge-lines judge-text read-all judge C.target slot power powered order-targets-equal order-targets order passes-dec merged free-dec turn-of turn place push nf ℕ-discrete decLt digits spaced one two word render rendered circuit-text
+pass = refl
+
+-- document 01's starred examples
+pub examples : All table
+examples = tests-hold table pass

@@ -1,0 +1,92 @@
+-- What each of the three jobs says: number, line, count, and each record and byte lent to it, for all inputs (document 01, "Lent memory and
+-- the ten numbers"). Assumes nothing.
+use Prim.Native.Nat.{ℕ, _-_}
+use mathlib.Core.Path.{_≡_}
+use mathlib.Core.Bool.{cond}
+use mathlib.Core.List.{List, _++_}
+use lib.ListN.{length, drop, replicate}
+use lib.Dec.{leb, ltb}
+use Rattle.gates.specs.declared.Gate.{Gate}
+use Rattle.gates.specs.declared.Gate.the-variants.{Not}
+use Rattle.gates.specs.Reduced.{Reduced}
+use Rattle.text.specs.declared.Refusal.{Refusal}
+use Rattle.text.specs.declared.Refusal.the-variants.{Overlong, ShortList, ShortAnswer}
+use Rattle.text.specs.declared.Head.{Head}
+use Rattle.text.specs.Refusals.{number-of}
+use Rattle.text.specs.Text.{circuit-text}
+use Rattle.text.specs.Judging.{Kind, cascade, circuit, Judged, turned-away, accepted, judge}
+
+-- map a cascade text to a circuit text, reduce a circuit text, quote the gate count of a cascade
+pub data Job : Type 0 where
+  mapping reducing quoting : Job
+
+-- the text that a job takes
+unfoldable pub takes : Job → Kind
+takes mapping = cascade
+takes reducing = circuit
+takes quoting = cascade
+
+-- what a job is given: the text, the lent gate list, the lent answer area (quote is lent none: its area is empty here)
+pub record Entry : Type 0 where
+  pub text : List ℕ
+  pub list : List Gate
+  pub area : List ℕ
+
+-- what comes back: number, line and count, and what then stands in the gate list and the answer area
+pub record Exit : Type 0 where
+  pub number : ℕ
+  pub line : ℕ
+  pub count : ℕ
+  pub list : List Gate
+  pub area : List ℕ
+
+-- ---- a refusal
+
+-- "Numbers 1 and 2 leave the gate list unchanged; the others leave `not 0` in every record"
+unfoldable pub left : Refusal → List Gate → List Gate
+left r l = cond (leb (number-of r) 2) l (replicate (length l) (Not 0))
+
+-- "A refusal returns its number, its line and count 0. It leaves the answer area unchanged"
+unfoldable pub refusal : Refusal → ℕ → Entry → Exit
+refusal r l e = record { number = number-of r; line = l; count = 0; list = left r (e .list); area = e .area }
+
+-- ---- rules 1 to 9: "Rule 1 comes first, then 2, both with line 0. Then the lines in order"
+
+-- a text, where the gate list has this many records
+unfoldable pub judged-text : Kind → List ℕ → ℕ → Judged
+judged-text k s records =
+    cond (ltb 60000 (length s)) (turned-away Overlong 0)
+    (cond (ltb records 4096) (turned-away ShortList 0)
+    (judge k s))
+
+unfoldable pub judged : Kind → Entry → Judged
+judged k e = judged-text k (e .text) (length (e .list))
+
+-- ---- success: number 0, line 0 and a count; "Then 10, line 0"
+
+-- "the gate list holds first the reduced list of the circuit read or expanded, and `not 0` in every later record"
+unfoldable pub filled : List Gate → List Gate → List Gate
+filled r l = r ++ replicate (length l - length r) (Not 0)
+
+-- "The answer area holds that list as a circuit text, at its front, its other bytes unchanged": s is the text of the list r
+unfoldable pub written : Entry → List Gate → List ℕ → Exit
+written e r s =
+    cond (ltb (length (e .area)) (length s)) (refusal ShortAnswer 0 e)
+    (record { number = 0; line = 0; count = length s; list = filled r (e .list); area = s ++ drop (length s) (e .area) })
+
+-- the answer by the reduced list r: "bytes written for map and reduce, gates for quote"
+unfoldable pub answered : Job → Entry → Head → List Gate → Exit
+answered mapping e h r = written e r (circuit-text (h .lines) r)
+answered reducing e h r = written e r (circuit-text (h .lines) r)
+answered quoting e h r = record { number = 0; line = 0; count = length r; list = filled r (e .list); area = e .area }
+
+-- ---- what a job says
+
+-- by what its text was judged to be: the refusal, or the answer by the reduced list of its circuit
+unfoldable pub Settled : Job → Entry → Judged → Exit → Type 0
+Settled j e (turned-away r l) x = x ≡ refusal r l e
+Settled j e (accepted h c) x = (r : List Gate) × Reduced (h .lines) c r × (x ≡ answered j e h r)
+
+-- the contract of a job
+unfoldable pub Says : Job → Entry → Exit → Type 0
+Says j e x = Settled j e (judged (takes j) e) x

@@ -1,0 +1,3 @@
+pub mod Jobs
+pub mod Demands
+pub mod Examples

@@ -1,0 +1,8 @@
+pub mod Whole
+pub mod Mixing
+pub mod Flips
+pub mod Patterns
+pub mod Runs
+pub mod SameMatrix
+pub mod Links
+pub mod Lines

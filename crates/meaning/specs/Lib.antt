@@ -1,0 +1,3 @@
+pub mod Amplitude
+pub mod Pattern
+pub mod State

@@ -1,0 +1,77 @@
+-- The unstarred examples, each rule, and the order of the rules, computed: one table. Assumes nothing.
+use mathlib.Core.Path.{_≡_, refl}
+use mathlib.Core.Bool.{Bool, true, false, _&&_}
+use mathlib.Core.List.{List, [], _∷_, _++_}
+use Prim.Native.Nat.{ℕ, zero, suc}
+use lib.Dec.{eqb}
+use lib.ListN.{length}
+use Rattle.meaning.specs.Pattern.{has}
+use Rattle.gates.specs.Inverse.{inverse, inverted}
+use Rattle.cascades.specs.Expansion.{spare, _⨾_, joined, expand, expansion}
+use Rattle.text.specs.Text.{bytes}
+use Rattle.text.specs.Reading as R
+use Rattle.text.specs.Reading.{strip, second, num, tail, pair, list, many, lines-body, not-body, mct-body, powered-body, parse, whole, read, longer, cut}
+use Rattle.text.specs.Judging as J
+use Rattle.text.specs.Judging.{Kind, cascade, circuit, Judged, turned-away, accepted, belongs, most, any-from, rising, first, head-rules, rules, or-else, judge-lines, judge-text, read-all, judge}
+use Rattle.text.specs.Refusals.{number-of}
+
+-- a text, and: the refusal's number and line; or the lines and the gates of an accepted text
+pub data Edge : Type 0 where
+  away passes : Kind → List ℕ → ℕ → ℕ → Edge
+
+unfoldable times : ℕ → List ℕ → List ℕ
+times zero s = []
+times (suc n) s = s ++ times n s
+
+abbrev m15 : List ℕ
+m15 = bytes "(mct (0 1 2 3 4 5 6 7 8 9 10 11 12 13 14) 15)\n"
+
+unfoldable is-away : Judged → ℕ → ℕ → Bool
+is-away (turned-away r l) m k = eqb (number-of r) m && eqb l k
+is-away (accepted h c) m k = false
+
+unfoldable is-passed : Judged → ℕ → ℕ → Bool
+is-passed (turned-away r l) m k = false
+is-passed (accepted h c) m k = eqb (h .lines) m && eqb (length c) k
+
+unfoldable holds : Edge → Bool
+holds (away k s m l) = is-away (judge k s) m l
+holds (passes k s n g) = is-passed (judge k s) n g
+
+unfoldable all-hold : List Edge → Bool
+all-hold [] = true
+all-hold (e ∷ es) = holds e && all-hold es
+
+abbrev edges : List Edge
+edges =
+    passes cascade (bytes "(lines 17)\n" ++ times 11 m15) 17 4092
+    ∷ away cascade (bytes "(lines 17)\n" ++ times 12 m15) 9 13
+    ∷ away cascade (bytes "(lines 17)\n(mct (0 1 2 3 4 5 6 7 8 9 10 11 12 13 14 15) 16)\n") 7 2
+    ∷ passes cascade (bytes "(lines 32)\n") 32 0
+    ∷ away cascade (bytes "(lines 33)\n") 4 1
+    ∷ away cascade (bytes "(lines 0)\n") 4 1
+    ∷ away cascade (bytes "(lines 100)\n") 3 1
+    ∷ away circuit (bytes "(lines 3)\n(not 1)") 3 2
+    ∷ away circuit (bytes "(lines 3)") 3 1
+    ∷ away circuit [] 3 1
+    ∷ away circuit (bytes "\n") 3 1
+    ∷ away circuit (bytes "(lines 3)\n(not 1)\n\n") 3 3
+    ∷ away circuit (bytes "(lines 3)\n(lines 3)\n") 3 2
+    ∷ away circuit (bytes "(lines 3)\n(mct () 1)\n") 3 2
+    ∷ away cascade (bytes "(lines 3)\n(not 1)\n") 3 2
+    ∷ away circuit (bytes "(not 1)\n") 3 1
+    ∷ away circuit (bytes "(lines 3)\n(v 1 03)\n") 3 2
+    ∷ away circuit (bytes "(lines 3)\n(V 1 2)\n") 3 2
+    ∷ away circuit (bytes "(lines 3)\n(v  1 2)\n") 3 2
+    ∷ passes cascade (bytes "(lines 1)\n" ++ times 256 (bytes "(mct () 0)\n")) 1 256
+    ∷ away cascade (bytes "(lines 1)\n" ++ times 257 (bytes "(mct () 0)\n")) 9 258
+    -- 4 before 5, 5 before 6, 6 before 7, 8 before 9
+    ∷ away cascade (bytes "(lines 3)\n(mct (3) 3)\n") 4 2
+    ∷ away cascade (bytes "(lines 3)\n(mct (2 1) 2)\n") 5 2
+    ∷ away cascade (bytes "(lines 32)\n(mct (0 2 1 3 4 5 6 7 8 9 10 11 12 13 14 15) 16)\n") 6 2
+    ∷ away cascade (bytes "(lines 4)\n" ++ (times 256 (bytes "(mct () 0)\n") ++ bytes "(mct (0 1 2) 3)\n")) 8 258
+    ∷ []
+
+edges-hold : all-hold edges ≡ true
+unfolding times is-away is-passed holds all-hold number-of has inverse inverted spare _⨾_ joined expand expansion strip second num tail pair R.control R.controls list many lines-body not-body mct-body powered-body parse whole read longer cut J.controls J.target J.gates belongs most any-from rising first head-rules rules or-else judge-lines judge-text read-all judge
+edges-hold = refl

@@ -1,0 +1,5 @@
+pub mod Printed
+pub mod Accepted
+pub mod Written
+pub mod Cursor
+pub mod Edges

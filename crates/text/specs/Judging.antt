@@ -1,0 +1,121 @@
+-- Rules 3 to 9: what a text is judged to be. It computes.
+-- Assumes nothing.
+use Prim.Native.Nat.{ℕ, zero, suc, _+_}
+use mathlib.Core.Bool.{Bool, true, false, cond, not, _&&_, _||_}
+use mathlib.Core.List.{List, [], _∷_, _++_}
+use lib.ListN.{length}
+use lib.Dec.{eqb, leb, ltb}
+use Rattle.gates.specs.declared.Gate.{Gate}
+use Rattle.gates.specs.declared.Gate.the-variants.{Not, Powered}
+use Rattle.meaning.specs.Pattern.{has}
+use Rattle.cascades.specs.Expansion.{expansion}
+use Rattle.text.specs.declared.Refusal.{Refusal}
+use Rattle.text.specs.declared.Head.{Head}
+use Rattle.text.specs.declared.Refusal.the-variants.{Malformed, NoSuchLine, Crossed, Unsorted, TooWide, NoSpare, TooMany}
+use Rattle.text.specs.Text.{Form, lines, gate, mct}
+use Rattle.text.specs.Reading.{Line, in-form, unformed, read, cut}
+
+-- the two texts
+pub data Kind : Type 0 where
+  cascade circuit : Kind
+
+-- a text is turned away with a refusal and a line; or accepted, with its head and its circuit, read or expanded
+pub data Judged : Type 0 where
+  turned-away : Refusal → ℕ → Judged
+  accepted : Head → List Gate → Judged
+
+-- ---- a line after line 1: its controls, its target, and the gates that it puts into a circuit of n lines
+
+unfoldable pub controls : Form → List ℕ
+controls (lines n) = []
+controls (gate (Not t)) = []
+controls (gate (Powered p c t)) = c ∷ []
+controls (mct cs t) = cs
+
+unfoldable pub target : Form → ℕ
+target (lines n) = 0
+target (gate (Not t)) = t
+target (gate (Powered p c t)) = t
+target (mct cs t) = t
+
+unfoldable pub gates : ℕ → Form → List Gate
+gates n (lines m) = []
+gates n (gate g) = g ∷ []
+gates n (mct cs t) = expansion n cs t
+
+-- the form that every line after line 1 has in a text of this kind
+unfoldable pub belongs : Kind → Form → Bool
+belongs cascade (lines n) = false
+belongs cascade (gate g) = false
+belongs cascade (mct cs t) = true
+belongs circuit (lines n) = false
+belongs circuit (gate g) = true
+belongs circuit (mct cs t) = false
+
+-- at most 256 mct lines, at most 4,096 circuit lines
+unfoldable pub most : Kind → ℕ
+most cascade = 256
+most circuit = 4096
+
+unfoldable pub any-from : ℕ → List ℕ → Bool
+any-from n [] = false
+any-from n (c ∷ cs) = leb n c || any-from n cs
+
+unfoldable pub rising : List ℕ → Bool
+rising [] = true
+rising (c ∷ []) = true
+rising (c ∷ d ∷ cs) = ltb c d && rising (d ∷ cs)
+
+-- ---- the rules: each with the name of its refusal, tried in this order
+
+pub data Found : Type 0 where
+  sound : Found
+  breaks : Refusal → Found
+
+pub data Rule : Type 0 where
+  rule : Refusal → Bool → Rule
+
+unfoldable pub first : List Rule → Found
+first [] = sound
+first (rule r b ∷ rs) = cond b (breaks r) (first rs)
+
+-- line 1: (lines n), n from 1 to 32
+unfoldable pub head-rules : ℕ → List Rule
+head-rules n = rule NoSuchLine (not (leb 1 n && leb n 32)) ∷ []
+
+-- a form below the head h, after `before` gate lines that made the circuit c
+unfoldable pub rules : Kind → Head → ℕ → List Gate → Form → List Rule
+rules k h before c f =
+    rule Malformed (not (belongs k f))
+    ∷ rule NoSuchLine (any-from (h .lines) (target f ∷ controls f))
+    ∷ rule Crossed (has (target f) (controls f))
+    ∷ rule Unsorted (not (rising (controls f)))
+    ∷ rule TooWide (ltb 15 (length (controls f)))
+    ∷ rule NoSpare (leb 3 (length (controls f)) && eqb (h .lines) (length (controls f) + 1))
+    ∷ rule TooMany (ltb (most k) (before + 1) || ltb 4096 (length (c ++ gates (h .lines) f)))
+    ∷ []
+
+-- ---- the lines in order; the first failing line, counted from 1, is returned
+
+unfoldable pub or-else : Found → ℕ → Judged → Judged
+or-else sound l j = j
+or-else (breaks r) l j = turned-away r l
+
+unfoldable pub judge-lines : Kind → Head → ℕ → List Gate → List Line → Judged
+judge-lines k h before c [] = accepted h c
+judge-lines k h before c (unformed ∷ ls) = turned-away Malformed (before + 2)
+judge-lines k h before c (in-form f ∷ ls) = or-else (first (rules k h before c f)) (before + 2) (judge-lines k h (before + 1) (c ++ gates (h .lines) f) ls)
+
+unfoldable pub judge-text : Kind → List Line → Judged
+judge-text k [] = turned-away Malformed 1
+judge-text k (unformed ∷ ls) = turned-away Malformed 1
+judge-text k (in-form (lines n) ∷ ls) = or-else (first (head-rules n)) 1 (judge-lines k (record { lines = n }) 0 [] ls)
+judge-text k (in-form (gate g) ∷ ls) = turned-away Malformed 1
+judge-text k (in-form (mct cs t) ∷ ls) = turned-away Malformed 1
+
+unfoldable pub read-all : List (List ℕ) → List Line
+read-all [] = []
+read-all (l ∷ ls) = read l ∷ read-all ls
+
+unfoldable pub judge : Kind → List ℕ → Judged
+judge k s = judge-text k (read-all (cut s))

@@ -1,0 +1,4 @@
+pub mod Refusals
+pub mod Text
+pub mod Reading
+pub mod Judging

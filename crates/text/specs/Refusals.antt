@@ -1,0 +1,16 @@
+-- The numbers of document 01's ten refusals. Assumes nothing.
+use Prim.Native.Nat.{ℕ}
+use Rattle.text.specs.declared.Refusal.{Refusal}
+use Rattle.text.specs.declared.Refusal.the-variants.{Overlong, ShortList, Malformed, NoSuchLine, Crossed, Unsorted, TooWide, NoSpare, TooMany, ShortAnswer}
+
+unfoldable pub number-of : Refusal → ℕ
+number-of Overlong = 1
+number-of ShortList = 2
+number-of Malformed = 3
+number-of NoSuchLine = 4
+number-of Crossed = 5
+number-of Unsorted = 6
+number-of TooWide = 7
+number-of NoSpare = 8
+number-of TooMany = 9
+number-of ShortAnswer = 10
