@@ -6,6 +6,7 @@ use mathlib.Core.Bool.{Bool, true, false, cond, _&&_, and-true}
 use mathlib.Core.List.{List, [], _∷_, _++_}
 use Prim.Native.Nat.{ℕ, suc, _+_, _<_, _%_}
 use native.Mathlib.Omega.{arith}
+use borrow.Author.Tests.{ne-eqb}
 use Rattle.gates.specs.declared.Gate.{Gate}
 use Rattle.gates.specs.declared.Gate.the-variants.{Not, Powered}
 use Rattle.gates.specs.Inverse.{inverse}
@@ -13,7 +14,7 @@ use Rattle.meaning.specs.Amplitude.{Amplitude, _⊕_, doubled, mix}
 use Rattle.meaning.specs.Pattern.{Pattern, flip, holds, mct, has}
 use Rattle.meaning.specs.State.{State, apply, run, powered-gates}
 use Rattle.meaning.proofs.Mixing.{mix-mix, mix-zero, mix-two, twice-mix, doubled-⊕, doubled-mix, doubled-add, halved}
-use Rattle.meaning.proofs.Flips.{flip-other, flip-flip, toggle, mct-at, holds-mct, holds-append, mct-flip, mct-mct, mct-four, eqb-other}
+use Rattle.meaning.proofs.Flips.{flip-other, flip-flip, toggle, mct-at, holds-mct, holds-append, mct-flip, mct-mct, mct-four}
 use Rattle.meaning.proofs.Runs.{power, power-small, apply-mix, run-append, powered-append, Acts}
 use Rattle.cascades.specs.Expansion.{cn, _⨾_, toffoli, joined}
 
@@ -64,7 +65,7 @@ cnot-acts a t ψ x = rw (and-true (x a)) (go (x a))
 
 single : (a c : ℕ) → c ≢ a → has c (a ∷ []) ≡ false
 unfolding has
-single a c n = rw (eqb-other c a n)
+single a c n = rw (ne-eqb c a n)
 
 two-powers : (a b : Bool) → (((0 + power b 1) % 4 + power (toggle a b) 3) % 4 + power a 1) % 4 ≡ cond (a && b) 2 0
 two-powers true true = refl

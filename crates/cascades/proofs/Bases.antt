@@ -1,23 +1,21 @@
 -- An expansion, with any choice of spare lines, takes the start from a pattern to 2^m times the start from what its cascade makes of the
 -- pattern. Assumes nothing.
 use mathlib.Core.Path.{_≡_, refl, sym, _∙_, fun-ext}
-use mathlib.Core.Logic.{_≢_}
 use mathlib.Core.Bool.{Bool, true, false, cond}
 use mathlib.Core.List.{List, [], _∷_}
-use Prim.Native.Nat.{ℕ, _<_}
+use Prim.Native.Nat.{ℕ}
 use Rattle.gates.specs.declared.Gate.{Gate}
 use Rattle.meaning.specs.Amplitude.{doubled}
 use Rattle.meaning.specs.Pattern.{Pattern, flip, holds, mct, has}
-use Rattle.meaning.specs.State.{State, run, powered-gates, SameAmplitude, SameMatrix}
+use Rattle.meaning.specs.State.{run, powered-gates, SameAmplitude, SameMatrix}
 use Rattle.meaning.proofs.Mixing.{cancel}
 use Rattle.meaning.proofs.Flips.{mct-mct, mct-other}
-use Rattle.meaning.proofs.Patterns.{agree-is, is-agree, same-tests, flip-agree}
+use Rattle.meaning.proofs.Patterns.{agree-is, same-tests, flip-agree}
 use Rattle.meaning.proofs.Runs.{scaled, run-scaled, scaled-scaled}
 use Rattle.meaning.proofs.SameMatrix.{doubled-comm}
-use Rattle.cascades.specs.Expansion.{_⨾_, Expands}
-use Rattle.cascades.specs.Cascade.{Controlled, after, expand-all, ExpandsAll, no-gate, next-gate, agree, basis, Below, OnLines, AllOnLines, AllExpandable, targets}
-use Rattle.cascades.proofs.Halves.{out-cons, all-on-lines}
-use Rattle.cascades.proofs.Lowest.{expand-all-expands}
+use Rattle.cascades.specs.Expansion.{Expands}
+use Rattle.cascades.specs.Cascade.{Controlled, after, ExpandsAll, no-gate, next-gate, agree, basis, Below, OnLines, AllOnLines, targets}
+use Rattle.cascades.proofs.Halves.{out-cons}
 use Rattle.cascades.proofs.Acting.{run-then, powered-then}
 use Rattle.cascades.proofs.Expanding.{expands-runs}
 
@@ -30,19 +28,13 @@ module _ (n : ℕ) where
   holds-agree (c ∷ cs) x y b e = rw (agree-is n x y e c (b .0), holds-agree cs x y (b .1) e)
 
   -- an mct gate on n lines takes patterns that agree on them to such patterns
-  pub mct-agree : (cs : List ℕ) (t : ℕ) (x y : Pattern) → Below n cs → agree n x y ≡ true → agree n (mct cs t x) (mct cs t y) ≡ true
+  mct-agree : (cs : List ℕ) (t : ℕ) (x y : Pattern) → Below n cs → agree n x y ≡ true → agree n (mct cs t x) (mct cs t y) ≡ true
   unfolding mct
   mct-agree cs t x y b e = rw (holds-agree cs x y b e) (go (holds cs y))
     where
       go : (p : Bool) → agree n (cond p (flip t x) x) (cond p (flip t y) y) ≡ true
       go true = flip-agree n t x y e
       go false = e
-
-  -- and so does a cascade
-  pub after-agree : (gs : List Controlled) → AllOnLines n gs → (x y : Pattern) → agree n x y ≡ true → agree n (after gs x) (after gs y) ≡ true
-  unfolding after AllOnLines
-  after-agree [] w x y e = e
-  after-agree (g ∷ gs) w x y e = after-agree gs (w .1) _ _ (mct-agree (g .controls) (g .target) x y (w .0 .below) e)
 
 -- a cascade leaves a line alone that none of its gates has as target
 pub after-restored : (gs : List Controlled) (y : Pattern) (i : ℕ) → has i (targets gs) ≡ false → after gs y i ≡ y i
@@ -55,7 +47,7 @@ after-restored (g ∷ gs) y i e =
 -- ---- starts
 
 module _ (n : ℕ) where
-  pub mct-basis : (cs : List ℕ) (t : ℕ) (x y : Pattern) → OnLines n cs t → basis n y (mct cs t x) ≡ basis n (mct cs t y) x
+  mct-basis : (cs : List ℕ) (t : ℕ) (x y : Pattern) → OnLines n cs t → basis n y (mct cs t x) ≡ basis n (mct cs t y) x
   unfolding basis
   mct-basis cs t x y w = rw (same-tests (agree n (mct cs t x) y) (agree n x (mct cs t y)) forth back)
     where
@@ -66,7 +58,7 @@ module _ (n : ℕ) where
       back h = rw (mct-mct cs t y (w .other)) at (mct-agree n cs t x (mct cs t y) (w .below) h)
 
   -- one gate
-  pub expands-basis : {cs : List ℕ} {t : ℕ} {c : List Gate} → OnLines n cs t → Expands n cs t c → (y : Pattern) → run c (basis n y) ≡ scaled (powered-gates c) (basis n (mct cs t y))
+  expands-basis : {cs : List ℕ} {t : ℕ} {c : List Gate} → OnLines n cs t → Expands n cs t c → (y : Pattern) → run c (basis n y) ≡ scaled (powered-gates c) (basis n (mct cs t y))
   expands-basis {cs} {t} w e y = fun-ext λ x. expands-runs n w e (basis n y) x ∙ rw (mct-basis cs t x y w)
 
   -- the gates of a cascade
@@ -79,14 +71,8 @@ module _ (n : ℕ) where
       ∙ rw (expands-basis (w .0) e y, run-scaled (powered-gates c) d (basis n z), expands-all-basis (w .1) es z)
       (scaled-scaled (powered-gates c) (powered-gates d) _ (basis n (after gs z)) (sym (powered-then c d)))
 
-  pub cascade-basis : (gs : List Controlled) → AllExpandable n gs → (y : Pattern) → run (expand-all n gs) (basis n y) ≡ scaled (powered-gates (expand-all n gs)) (basis n (after gs y))
-  cascade-basis gs w y = expands-all-basis (all-on-lines n gs w) (expand-all-expands n gs w) y
-
   -- a circuit with the same matrix does so too
   pub matrix-basis : {gs : List Controlled} {d : List Gate} → AllOnLines n gs → ExpandsAll n gs d → (c : List Gate) → SameMatrix n c d → (y : Pattern) → run c (basis n y) ≡ scaled (powered-gates c) (basis n (after gs y))
   unfolding SameMatrix SameAmplitude
   matrix-basis {gs} {d} w es c e y = fun-ext λ x. let m = powered-gates d in
       cancel m _ _ (e y x ∙ rw (expands-all-basis w es y) (doubled-comm (powered-gates c) m (basis n (after gs y) x)))
-
-  pub realises : (gs : List Controlled) → AllExpandable n gs → (c : List Gate) → SameMatrix n c (expand-all n gs) → (y : Pattern) → run c (basis n y) ≡ scaled (powered-gates c) (basis n (after gs y))
-  realises gs w c e y = matrix-basis (all-on-lines n gs w) (expand-all-expands n gs w) c e y

@@ -1,31 +1,20 @@
 -- Every expansion, with any choice of spare lines, has as many gates as the table says. Assumes nothing.
-use mathlib.Core.Path.{_≡_, refl, ap, _∙_}
+use mathlib.Core.Path.{_≡_, refl, _∙_}
 use mathlib.Core.List.{List, [], _∷_}
 use Prim.Native.Nat.{ℕ, zero, suc, _+_, _-_, _*_, _/_, _≤_, _<_}
 use native.Mathlib.Omega.{arith}
 use lib.Dec.{eqb, eqb→eq}
 use lib.ListN.{length, getD, length-append, length-take, length-drop}
 use Rattle.gates.specs.declared.Gate.{Gate}
-use Rattle.gates.specs.Inverse.{inverse, inverted}
-use Rattle.cascades.specs.Expansion.{v, v⁺, _⨾_, joined, c0, c1, Expands, no-control, one-control, two-controls, more-controls, spare, expand, expansion, counts}
+use Rattle.gates.proofs.Inverses.{length-inverse}
+use Rattle.cascades.specs.Expansion.{_⨾_, joined, c0, c1, Expands, no-control, one-control, two-controls, more-controls, spare, expand, expansion, counts}
 use Rattle.cascades.proofs.Every.{at}
 
 -- ---- lengths
 
-length-inverse : (c : List Gate) → length (inverse c) ≡ length c
-unfolding inverse
-length-inverse [] = refl
-length-inverse (g ∷ c) = length-append (inverse c) (inverted g ∷ []) ∙ omega (arith, length-inverse c)
-
-length-then : (a b : List Gate) → length (a ⨾ b) ≡ length a + length b
-unfolding _⨾_
-length-then a b = length-append a b
-
-length-joined : (s t : ℕ) (m l : List Gate) → length (joined s t m l) ≡ 4 + 2 * (length m + length l)
-unfolding joined
-length-joined s t m l =
-    let a = v s t in let b = v⁺ s t in let m′ = inverse m in let l′ = inverse l in
-    omega (arith, length-then a (m ⨾ b ⨾ l ⨾ a ⨾ m′ ⨾ b ⨾ l′), length-then m (b ⨾ l ⨾ a ⨾ m′ ⨾ b ⨾ l′), length-then b (l ⨾ a ⨾ m′ ⨾ b ⨾ l′), length-then l (a ⨾ m′ ⨾ b ⨾ l′), length-then a (m′ ⨾ b ⨾ l′), length-then m′ (b ⨾ l′), length-then b l′, length-inverse m, length-inverse l)
+pub length-joined : (s t : ℕ) (m l : List Gate) → length (joined s t m l) ≡ 4 + 2 * (length m + length l)
+unfolding joined _⨾_
+length-joined s t m l = simp (length-append, length-inverse) (omega arith)
 
 length-c0 : (cs : List ℕ) → length (c0 cs) ≡ length cs / 2
 length-c0 cs = omega (arith, length-take (length cs / 2) cs)

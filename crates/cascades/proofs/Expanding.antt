@@ -13,13 +13,10 @@ use Rattle.meaning.proofs.Flips.{mct-mct}
 use Rattle.meaning.proofs.Runs.{Acts, acts-inverse}
 use Rattle.cascades.specs.Expansion.{c0, c1, Expands, no-control, one-control, two-controls, more-controls, expansion, Expandable}
 use Rattle.cascades.specs.Cascade.{Below, OnLines}
-use Rattle.cascades.proofs.Halves.{halves-on-lines, on-lines}
+use Rattle.cascades.proofs.Halves.{out-cons, out-append, distinct-two, halves-on-lines, on-lines}
 use Rattle.cascades.proofs.Lowest.{expansion-expands}
 use Rattle.cascades.proofs.Valid.{expands-valid}
 use Rattle.cascades.proofs.Acting.{not-acts, cnot-acts, two-acts, joined-acts}
--- the lines that a gate does not name, and its lowest spare line
-pub use Rattle.cascades.proofs.Halves.{out-cons, cons-out, out-append, distinct-two}
-pub use Rattle.cascades.proofs.Lowest.{spare-is}
 
 module _ (n : ℕ) where
   -- M2 and M3 are the inverses of M0 and M1, and act as these do

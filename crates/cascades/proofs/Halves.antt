@@ -1,14 +1,14 @@
 -- The lines that an mct gate does not name, and the two smaller gates of a gate with three or more controls. Assumes nothing.
-use mathlib.Core.Path.{_≡_, refl, sym, ap, _∙_}
+use mathlib.Core.Path.{_≡_, sym, ap, _∙_}
 use mathlib.Core.Logic.{_≢_}
-use mathlib.Core.Bool.{true, false}
+use mathlib.Core.Bool.{true, false, false≢true}
 use mathlib.Core.List.{List, [], _∷_, _++_}
-use Prim.Native.Nat.{ℕ, _/_, _≤_, _<_}
-use native.Mathlib.Omega.{arith}
+use Prim.Native.Nat.{ℕ, _/_, _<_}
 use lib.Dec.{eqb}
-use lib.ListN.{length, take, drop, take-append-drop}
+use borrow.Author.Tests.{eq-eqb, ne-eqb, eqb-false}
+use lib.ListN.{length, take-append-drop}
 use Rattle.meaning.specs.Pattern.{has, distinct}
-use Rattle.meaning.proofs.Flips.{distinct-append, has-append, neither, eqb-false, eqb-other, eqb-same}
+use Rattle.meaning.proofs.Flips.{distinct-append, has-append, neither}
 use Rattle.cascades.specs.Expansion.{c0, c1, Expandable}
 use Rattle.cascades.specs.Cascade.{Controlled, Below, OnLines, AllOnLines, AllExpandable}
 
@@ -20,14 +20,14 @@ out-cons j c cs e = let u = neither (eqb j c) (has j cs) e in ((λ r. eqb-false 
 
 pub cons-out : (j c : ℕ) (cs : List ℕ) → c ≢ j → has j cs ≡ false → has j (c ∷ cs) ≡ false
 unfolding has
-cons-out j c cs n e = rw (eqb-other j c (λ r. n (sym r)), e)
+cons-out j c cs n e = rw (ne-eqb j c (λ r. n (sym r)), e)
 
 pub out-append : (j : ℕ) (c d l : List ℕ) → c ++ d ≡ l → has j l ≡ false → (has j c ≡ false) × (has j d ≡ false)
 out-append j c d l e h = neither (has j c) (has j d) (sym (has-append j c d) ∙ ap (has j) e ∙ h)
 
 pub distinct-two : (a b : ℕ) → distinct (a ∷ b ∷ []) ≡ true → a ≢ b
 unfolding distinct has
-distinct-two a b e r = let q : eqb a b ≡ true = rw r (eqb-same b) in let z : _≡_ {A = ℕ} 0 1 = cc in omega arith
+distinct-two a b e r = let q = eq-eqb a b r in false≢true (rw q at e)
 
 module _ (n : ℕ) where
   -- ---- the smaller gates

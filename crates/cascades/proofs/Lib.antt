@@ -8,3 +8,4 @@ pub mod Bases
 pub mod Realises
 pub mod Every
 pub mod Counts
+pub mod Examples

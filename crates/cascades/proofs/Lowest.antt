@@ -5,13 +5,25 @@ use mathlib.Core.Bool.{Bool, true, false, cond}
 use mathlib.Core.List.{List, [], _∷_}
 use Prim.Native.Nat.{ℕ, zero, suc, _+_, _/_, _≤_, _<_}
 use native.Mathlib.Omega.{arith}
-use lib.ListN.{length, take, drop, length-take, length-drop}
+use native.Mathlib.Decide.{ℕ-discrete}
+use lib.ListN.{length, length-take, length-drop}
 use Rattle.meaning.specs.Pattern.{has}
 use Rattle.cascades.specs.Expansion.{c0, c1, Expands, no-control, one-control, two-controls, more-controls, spare, expand, expansion, Expandable}
 use Rattle.cascades.specs.Cascade.{Controlled, expand-all, ExpandsAll, no-gate, next-gate, AllExpandable}
 use Rattle.cascades.proofs.Halves.{halves-expandable}
 
--- the lowest spare line is spare, and is one of the lines, if some line is spare
+-- every lower line is named: `spare` is "the lowest one that this gate names neither as control nor as target"
+pub spare-lowest : (m i : ℕ) (l : List ℕ) (j : ℕ) → i ≤ j → j < spare m i l → has j l ≡ true
+unfolding spare
+spare-lowest zero i l j h k = absurd (omega arith)
+spare-lowest (suc m) i l j h k = go (has i l) refl k (ℕ-discrete i j) (spare-lowest m (suc i) l j)
+  where
+    go : (b : Bool) → has i l ≡ b → j < cond b (spare m (suc i) l) i → Dec (i ≡ j) → (suc i ≤ j → j < spare m (suc i) l → has j l ≡ true) → has j l ≡ true
+    go true e k′ (yes q) rest = rw (← q) e
+    go true e k′ (no q) rest = rest (omega arith) k′
+    go false e k′ d rest = absurd (omega arith)
+
+-- it is named neither, and is one of the lines, if some line is
 pub spare-is : (m i : ℕ) (l : List ℕ) (j : ℕ) → i ≤ j → j < i + m → has j l ≡ false → (has (spare m i l) l ≡ false) × (spare m i l < i + m)
 unfolding spare
 spare-is zero i l j h k e = absurd (omega arith)

@@ -1,11 +1,10 @@
 -- The theorem of demand 2: the reduced list of a cascade's expansion realises the cascade. From each pattern its run gives 2^m at the
 -- cascade's pattern and 0 elsewhere, and borrowed lines are restored. Assumes nothing.
-use mathlib.Core.Path.{_≡_, refl, sym, _∙_, ap}
+use mathlib.Core.Path.{_≡_, refl, _∙_, ap}
 use mathlib.Core.Logic.{_≢_}
-use mathlib.Core.Bool.{Bool, true, false, cond}
+use mathlib.Core.Bool.{Bool, true, false}
 use mathlib.Core.List.{List}
 use Prim.Native.Nat.{ℕ, _<_}
-use native.Mathlib.Omega.{arith}
 use Rattle.gates.specs.declared.Gate.{Gate}
 use Rattle.gates.specs.Reduced.{Reduced}
 use Rattle.meaning.specs.Amplitude.{one, nought, doubled}

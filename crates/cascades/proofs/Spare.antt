@@ -1,16 +1,19 @@
--- Of n lines, fewer than n do not fill all: a spare line is there by count.
-use mathlib.Core.Path.{_≡_, refl, sym, _∙_}
+-- A spare line is there by count: fewer than n lines leave one of n lines unnamed, and different lines of n are at most n. Assumes nothing.
+use mathlib.Core.Path.{_≡_, refl, ap}
 use mathlib.Core.Logic.{_≢_}
-use mathlib.Core.Bool.{Bool, true, false, cond, _||_}
+use mathlib.Core.Bool.{Bool, true, false, not, cond, _||_, false≢true}
 use mathlib.Core.List.{List, [], _∷_}
 use Prim.Native.Nat.{ℕ, zero, suc, _+_, _≤_, _<_}
 use native.Mathlib.Omega.{arith}
 use lib.Dec.{T, eqb, eqb→eq}
+use borrow.Author.Tests.{ne-eqb, eqb-false, not-true}
 use lib.ListN.{length}
 use Rattle.meaning.specs.Pattern.{has, distinct}
 use Rattle.cascades.specs.Expansion.{Expandable}
-use Rattle.meaning.proofs.Flips.{eqb-other, neither}
+use Rattle.cascades.specs.Cascade.{Below}
+use Rattle.meaning.proofs.Flips.{neither, both}
 
+-- the list without a line
 remove : ℕ → List ℕ → List ℕ
 remove j [] = []
 remove j (c ∷ cs) = cond (eqb j c) (remove j cs) (c ∷ remove j cs)
@@ -26,7 +29,7 @@ no-longer j (c ∷ cs) = go (eqb j c) (no-longer j cs)
 
 shorter : (j : ℕ) (cs : List ℕ) → has j cs ≡ true → length (remove j cs) < length cs
 unfolding remove has
-shorter j [] e = absurd (let z : _≡_ {A = ℕ} 0 1 = cc in omega arith)
+shorter j [] e = absurd (false≢true e)
 shorter j (c ∷ cs) e = go (eqb j c) e (shorter j cs)
   where
     go : (b : Bool) → (b || has j cs) ≡ true → (has j cs ≡ true → length (remove j cs) < length cs) → length (cond b (remove j cs) (c ∷ remove j cs)) < suc (length cs)
@@ -39,7 +42,7 @@ kept i j [] n e = refl
 kept i j (c ∷ cs) n e = go (eqb j c) (eqb→eq j c) e (kept i j cs n)
   where
     go : (b : Bool) → (T b → j ≡ c) → has i (cond b (remove j cs) (c ∷ remove j cs)) ≡ false → (has i (remove j cs) ≡ false → has i cs ≡ false) → (eqb i c || has i cs) ≡ false
-    go true q f rest = let r : j ≡ c = q tt in rw (eqb-other i c (omega arith), rest f)
+    go true q f rest = let r : j ≡ c = q tt in rw (ne-eqb i c (omega arith), rest f)
     go false q f rest = let u = neither (eqb i c) (has i (remove j cs)) f in rw (u .0, rest (u .1))
 
 pub spare-line : (n : ℕ) (l : List ℕ) → length l < n → (j : ℕ) × (j < n) × (has j l ≡ false)
@@ -53,3 +56,56 @@ spare-line (suc n) l h = go (has n l) refl (λ k. spare-line n (remove n l) k)
 -- distinct controls other than the target, and a line to spare by count
 pub valid : (n : ℕ) (cs : List ℕ) (t : ℕ) → distinct cs ≡ true → has t cs ≡ false → t < n → (3 ≤ length cs → length cs + 1 < n) → Expandable n cs t
 valid n cs t d e h k = record { apart = d; other = e; line = h; spare = λ m. spare-line n (t ∷ cs) (omega (arith, k m)) }
+
+-- ---- different lines of n
+
+not-there : (j : ℕ) (cs : List ℕ) → has j cs ≡ false → remove j cs ≡ cs
+unfolding remove has
+not-there j [] e = refl
+not-there j (c ∷ cs) e = let u = neither (eqb j c) (has j cs) e in rw (u .0, not-there j cs (u .1))
+
+still-out : (i j : ℕ) (cs : List ℕ) → has i cs ≡ false → has i (remove j cs) ≡ false
+unfolding remove has
+still-out i j [] e = refl
+still-out i j (c ∷ cs) e = let u = neither (eqb i c) (has i cs) e in go (eqb j c) (u .0) (still-out i j cs (u .1))
+  where
+    go : (b : Bool) → eqb i c ≡ false → has i (remove j cs) ≡ false → has i (cond b (remove j cs) (c ∷ remove j cs)) ≡ false
+    go true f g = g
+    go false f g = rw (f, g)
+
+-- different lines below n, of which a list of different lines has at most one more
+record OneFewer (n : ℕ) (l k : List ℕ) : Type 0 where
+  apart : distinct k ≡ true
+  fewer : length l ≤ suc (length k)
+  below : Below n k
+
+without : (n : ℕ) (l : List ℕ) → distinct l ≡ true → Below (suc n) l → OneFewer n l (remove n l)
+unfolding remove distinct Below
+without n [] d b = record { apart = refl; fewer = omega arith; below = tt }
+without n (c ∷ cs) d b = let u = both (not (has c cs)) (distinct cs) d in go (eqb n c) refl (eqb→eq n c) (not-true (has c cs) (u .0)) (without n cs (u .1) (b .1))
+  where
+    go : (q : Bool) → eqb n c ≡ q → (T q → n ≡ c) → has c cs ≡ false → OneFewer n cs (remove n cs) → OneFewer n (c ∷ cs) (cond q (remove n cs) (c ∷ remove n cs))
+    go true f g h rest =
+        let r : n ≡ c = g tt in
+        let e : remove n cs ≡ cs = not-there n cs (rw r h) in
+        record { apart = rest .apart; fewer = omega (arith, ap length e); below = rest .below }
+    go false f g h rest =
+        let m : n ≢ c = eqb-false n c f in
+        record { apart = rw (still-out c n cs h, rest .apart); fewer = omega (arith, rest .fewer); below = (omega (arith, b .0), rest .below) }
+
+none-below : (l : List ℕ) → Below 0 l → length l ≡ 0
+unfolding Below
+none-below [] b = refl
+none-below (c ∷ cs) b = absurd (omega (arith, b .0))
+
+-- different lines of n are at most n
+pub distinct-length : (n : ℕ) (l : List ℕ) → distinct l ≡ true → Below n l → length l ≤ n
+distinct-length zero l d b = omega (arith, none-below l b)
+distinct-length (suc n) l d b = let w = without n l d b in omega (arith, w .fewer, distinct-length n (remove n l) (w .apart) (w .below))
+
+-- what rules 4 to 8 let through: numbers below n, the target no control, different controls, and not three or more controls and n = k + 1
+pub by-rules : (n : ℕ) (cs : List ℕ) (t : ℕ) → t < n → Below n cs → has t cs ≡ false → distinct cs ≡ true → (3 ≤ length cs → n ≢ length cs + 1) → Expandable n cs t
+unfolding distinct Below
+by-rules n cs t h b e d k =
+    let fill = distinct-length n (t ∷ cs) (rw (e, d)) (h, b) in
+    valid n cs t d e h (λ m. let x = k m in omega arith)

@@ -1,33 +1,21 @@
 -- An expansion, with any choice of spare lines, is a circuit on the lines of its gate. Assumes nothing.
-use mathlib.Core.Path.{_≡_, sym}
+use mathlib.Core.Path.{sym}
 use mathlib.Core.Logic.{_≢_}
-use mathlib.Core.Bool.{true, false}
-use mathlib.Core.List.{List, [], _∷_, _++_}
-use Prim.Native.Nat.{ℕ, _-_, _%_, _≤_, _<_}
+use mathlib.Core.List.{List, [], _∷_}
+use Prim.Native.Nat.{ℕ, _≤_, _<_}
 use native.Mathlib.Omega.{arith}
 use Rattle.gates.specs.declared.Gate.{Gate}
-use Rattle.gates.specs.declared.Gate.the-variants.{Not, Powered}
-use Rattle.gates.specs.Circuit.{Valid, valid-not, valid-powered, AllValid}
-use Rattle.gates.specs.Inverse.{inverse, inverted}
+use Rattle.gates.specs.declared.Gate.the-variants.{Powered}
+use Rattle.gates.specs.Circuit.{valid-not, valid-powered, AllValid}
 use Rattle.gates.proofs.Reach.{all-valid-append}
-use Rattle.meaning.specs.Pattern.{has}
-use Rattle.cascades.specs.Expansion.{v, v⁺, cn, _⨾_, joined, toffoli, Expands, no-control, one-control, two-controls, more-controls, expansion, Expandable}
+use Rattle.gates.proofs.Inverses.{all-valid-inverse}
+use Rattle.cascades.specs.Expansion.{_⨾_, joined, toffoli, Expands, no-control, one-control, two-controls, more-controls, expansion, Expandable}
 use Rattle.cascades.specs.Cascade.{Controlled, expand-all, ExpandsAll, no-gate, next-gate, Below, OnLines, AllOnLines, AllExpandable}
 use Rattle.cascades.proofs.Halves.{out-cons, distinct-two, halves-on-lines, on-lines, all-on-lines}
 use Rattle.cascades.proofs.Lowest.{expansion-expands, expand-all-expands}
 
 module _ (n : ℕ) where
   -- ---- valid circuits
-
-  valid-inverted : {g : Gate} → Valid n g → Valid n (inverted g)
-  unfolding inverted
-  valid-inverted (valid-not h) = valid-not h
-  valid-inverted (valid-powered {p} a b c d e) = valid-powered {p = (4 - p) % 4} (omega arith) (omega arith) c d e
-
-  pub valid-inverse : (c : List Gate) → AllValid n c → AllValid n (inverse c)
-  unfolding inverse
-  valid-inverse [] f = tt
-  valid-inverse (g ∷ c) f = all-valid-append n (inverse c) (inverted g ∷ []) (valid-inverse c (f .1)) (valid-inverted (f .0), tt)
 
   valid-then : (a b : List Gate) → AllValid n a → AllValid n b → AllValid n (a ⨾ b)
   unfolding _⨾_
@@ -49,7 +37,7 @@ module _ (n : ℕ) where
   valid-joined s t m l a b d f h =
       let root = valid-one 1 s t (omega arith) (omega arith) a b d in
       let back = valid-one 3 s t (omega arith) (omega arith) a b d in
-      valid-then _ _ root (valid-then _ _ f (valid-then _ _ back (valid-then _ _ h (valid-then _ _ root (valid-then _ _ (valid-inverse m f) (valid-then _ _ back (valid-inverse l h)))))))
+      valid-then _ _ root (valid-then _ _ f (valid-then _ _ back (valid-then _ _ h (valid-then _ _ root (valid-then _ _ (all-valid-inverse n m f) (valid-then _ _ back (all-valid-inverse n l h)))))))
 
   -- ---- expansions
 

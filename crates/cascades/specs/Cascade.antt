@@ -2,13 +2,13 @@
 -- (document 01, "What a gate does" and "Expansion"). Assumes nothing.
 use mathlib.Core.Path.{_≡_}
 use mathlib.Core.Logic.{_≢_}
-use mathlib.Core.Bool.{Bool, true, false}
+use mathlib.Core.Bool.{true, false}
 use mathlib.Core.List.{List, [], _∷_}
-use Prim.Native.Nat.{ℕ, zero, suc, _<_}
+use Prim.Native.Nat.{ℕ, _<_}
 use Rattle.gates.specs.declared.Gate.{Gate}
-use Rattle.meaning.specs.Amplitude.{Amplitude, one, nought, doubled}
+use Rattle.meaning.specs.Amplitude.{one, nought, doubled}
 use Rattle.meaning.specs.Pattern.{Pattern, mct, has, distinct}
-use Rattle.meaning.specs.State.{State, run, powered-gates}
+use Rattle.meaning.specs.State.{run, powered-gates}
 use Rattle.cascades.specs.Expansion.{_⨾_, Expands, expansion, Expandable}
 -- the states of n lines that are surely one pattern, and patterns that agree on n lines
 unfoldable pub use Rattle.meaning.specs.Pattern.{agree}

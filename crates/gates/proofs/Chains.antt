@@ -4,7 +4,7 @@ use mathlib.Core.List.{List, [], _∷_, _++_}
 use Prim.Native.Nat.{ℕ}
 use Rattle.gates.specs.declared.Gate.{Gate}
 use Rattle.gates.specs.Circuit.{Valid, AllValid, Step, step, Linked, done, forth, back, Reaches, stop, more}
-use Rattle.gates.proofs.Reach.{step-cons, step-append}
+use Rattle.gates.proofs.Reach.{step-cons, step-append, step-all-valid}
 
 module _ {n : ℕ} where
   -- ---- from link to link
@@ -32,12 +32,9 @@ module _ {n : ℕ} where
   step-left : {c d : List Gate} → Step n c d → AllValid n c
   step-left (step u v w f k) = f
 
-  step-right : {c d : List Gate} → Step n c d → AllValid n d
-  step-right (step u v w f k) = k
-
   pub linked-all-valid : {c d : List Gate} → Linked n c d → AllValid n c → AllValid n d
   linked-all-valid done f = f
-  linked-all-valid (forth s l) f = linked-all-valid l (step-right s)
+  linked-all-valid (forth s l) f = linked-all-valid l (step-all-valid n s)
   linked-all-valid (back s l) f = linked-all-valid l (step-left s)
 
   -- ---- the same gates before and after

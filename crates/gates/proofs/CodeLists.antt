@@ -1,10 +1,11 @@
 -- Circuits as lists of numbers: there and back, parts of such lists, more lines, and dictionary order. Assumes nothing.
 use mathlib.Core.Path.{_≡_, refl, sym, ap, _∙_}
 use mathlib.Core.Logic.{_↔_, _⊎_, inl, inr}
-use mathlib.Core.List.{List, [], _∷_, _++_, map}
+use mathlib.Core.List.{List, [], _∷_, _++_, map, map-append}
 use Prim.Native.Nat.{ℕ, zero, suc, _≤_, _<_}
 use native.Mathlib.Omega.{arith}
 use lib.ListN.{length, length-map, getD, take, drop, set}
+use lib.Seq.{length-take-le, getD-take}
 use Rattle.gates.specs.declared.Gate.{Gate}
 use Rattle.gates.specs.Circuit.{Valid, valid-not, valid-powered, AllValid}
 use Rattle.gates.specs.Order.{_≼_, none, less, same}
@@ -17,8 +18,7 @@ pub length-gates : (l : List ℕ) → length (gates l) ≡ length l
 length-gates l = length-map l gate
 
 pub gates-append : (l m : List ℕ) → gates (l ++ m) ≡ gates l ++ gates m
-gates-append [] m = refl
-gates-append (k ∷ l) m = ap (λ w. gate k ∷ w) (gates-append l m)
+gates-append l m = map-append gate l m
 
 pub gates-take : (i : ℕ) (l : List ℕ) → gates (take i l) ≡ take i (gates l)
 gates-take zero l = refl
@@ -91,6 +91,10 @@ module _ (n : ℕ) where
   code-at [] i d b h = absurd (omega arith)
   code-at (k ∷ l) zero d b h = h .0
   code-at (k ∷ l) (suc i) d b h = code-at l i d (omega arith) (h .1)
+
+  -- one of the first m
+  pub code-in-front : (l : List ℕ) (m i d : ℕ) → i < m → m ≤ length l → AllCodes n (take m l) → Code n (getD l i d)
+  code-in-front l m i d b k h = rw (getD-take m l i d b) at (code-at (take m l) i d (rw (length-take-le m l k) b) h)
 
 -- ---- what is valid on n lines is valid on more
 

@@ -12,7 +12,7 @@ use Rattle.gates.specs.Circuit.{target, slot, power, powered, Valid, val
 use Rattle.gates.specs.Reduced.{Reduced}
 use Rattle.gates.specs.Inverse.{inverted, inverse}
 use Rattle.gates.proofs.Sites.{Same, passes-sym, passes-same, passes-same-right}
-use Rattle.gates.proofs.Merge.{merged, merged-rewrite}
+use Rattle.gates.proofs.Merge.{powered-one, merged, merged-rewrite}
 use Rattle.gates.proofs.Reach.{all-valid-append, all-valid-left, all-valid-right}
 use Rattle.gates.proofs.Chains.{linked-trans, linked-context}
 use Rattle.gates.proofs.Theorem.{nf, linked-nf, nf-linked}
@@ -78,11 +78,6 @@ module _ (n : ℕ) where
   inverse-inverse (g ∷ c) f = inverse-append (inverse c) (inverted g ∷ []) ∙ rw (inverted-inverted (f .0), inverse-inverse c (f .1))
 
 -- ---- links
-
-powered-one : (p c t : ℕ) → 1 ≤ p → powered p c t ≡ Powered p c t ∷ []
-unfolding powered
-powered-one zero c t h = absurd (omega arith)
-powered-one (suc p) c t h = refl
 
 power-small : {n p c t : ℕ} → Valid n (Powered p c t) → p ≤ 3
 power-small (valid-powered a b i j d) = b

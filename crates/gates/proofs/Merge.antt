@@ -10,6 +10,11 @@ use Rattle.gates.specs.declared.Gate.the-variants.{Not, Powered}
 use Rattle.gates.specs.Circuit.{target, slot, power, powered, Valid, valid-not, valid-powered, AllValid, Rewrite, merge, cancel}
 use Rattle.gates.proofs.Sites.{Same}
 
+pub powered-one : (p c t : ℕ) → 1 ≤ p → powered p c t ≡ Powered p c t ∷ []
+unfolding powered
+powered-one zero c t h = absurd (omega arith)
+powered-one (suc p) c t h = refl
+
 -- a and g, of one site, as one gate or none
 unfoldable pub merged : Gate → Gate → List Gate
 merged (Not t) g = []
@@ -55,18 +60,17 @@ pub data Triple (a g h : Gate) : Type 0 where
   right : (x : Gate) → merged a g ≡ x ∷ [] → merged g h ≡ [] → merged x h ≡ a ∷ [] → Same a x → Triple a g h
   both : (x k : Gate) → merged a g ≡ x ∷ [] → merged g h ≡ k ∷ [] → merged x h ≡ merged a k → Same a x → Same g k → Triple a g h
 
-same-powered : (m k c t : ℕ) → Same (Powered m c t) (Powered k c t)
+pub merged-same : (p q c t : ℕ) → Same (Powered p c t) (Powered q c t)
 unfolding target slot
-same-powered m k c t = record { targets = refl; controls = refl }
+merged-same p q c t = record { targets = refl; controls = refl }
 
 sum-none : (i j c t : ℕ) → (i + j) % 4 ≡ 0 → merged (Powered i c t) (Powered j c t) ≡ []
 unfolding merged power powered
 sum-none i j c t e = rw e
 
 sum-is : (i j m c t : ℕ) → (i + j) % 4 ≡ m → 1 ≤ m → merged (Powered i c t) (Powered j c t) ≡ Powered m c t ∷ []
-unfolding merged power powered
-sum-is i j zero c t e h = absurd (omega arith)
-sum-is i j (suc m) c t e h = rw e
+unfolding merged power
+sum-is i j m c t e h = rw e (powered-one m c t h)
 
 sum-as : (i j k l c t : ℕ) → (i + j) % 4 ≡ (k + l) % 4 → merged (Powered i c t) (Powered j c t) ≡ merged (Powered k c t) (Powered l c t)
 unfolding merged power
@@ -81,12 +85,12 @@ powers p q r c t h₁ h₂ h₃ h₄ h₅ h₆ = go ((p + q) % 4) refl ((q + r) 
     go : (m : ℕ) → (p + q) % 4 ≡ m → (k : ℕ) → (q + r) % 4 ≡ k → Triple (Powered p c t) (Powered q c t) (Powered r c t)
     go zero e zero f = neither (sum-none p q c t e) (sum-none q r c t f) (let i : r ≡ p = omega arith in rw i)
     go zero e (suc k) f =
-        left (Powered (suc k) c t) (sum-none p q c t e) (sum-is q r (suc k) c t f (omega arith)) (sum-is p (suc k) r c t (omega arith) h₅) (same-powered q (suc k) c t)
+        left (Powered (suc k) c t) (sum-none p q c t e) (sum-is q r (suc k) c t f (omega arith)) (sum-is p (suc k) r c t (omega arith) h₅) (merged-same q (suc k) c t)
     go (suc m) e zero f =
-        right (Powered (suc m) c t) (sum-is p q (suc m) c t e (omega arith)) (sum-none q r c t f) (sum-is (suc m) r p c t (omega arith) h₁) (same-powered p (suc m) c t)
+        right (Powered (suc m) c t) (sum-is p q (suc m) c t e (omega arith)) (sum-none q r c t f) (sum-is (suc m) r p c t (omega arith) h₁) (merged-same p (suc m) c t)
     go (suc m) e (suc k) f =
         both (Powered (suc m) c t) (Powered (suc k) c t) (sum-is p q (suc m) c t e (omega arith)) (sum-is q r (suc k) c t f (omega arith))
-        (sum-as (suc m) r p (suc k) c t (mod-assoc p q r (suc m) (suc k) e f)) (same-powered p (suc m) c t) (same-powered q (suc k) c t)
+        (sum-as (suc m) r p (suc k) c t (mod-assoc p q r (suc m) (suc k) e f)) (merged-same p (suc m) c t) (merged-same q (suc k) c t)
 
 -- gates of one site are all Not, or all Powered
 pub data Alike : Gate → Gate → Type 0 where
@@ -133,6 +137,3 @@ merged-powered p q c t = refl
 pub merged-not : (t u : ℕ) → merged (Not t) (Not u) ≡ []
 unfolding merged
 merged-not t u = refl
-
-pub merged-same : (p q c t : ℕ) → Same (Powered p c t) (Powered q c t)
-merged-same = same-powered

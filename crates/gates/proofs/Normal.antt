@@ -7,7 +7,7 @@ use Rattle.gates.specs.declared.Gate.{Gate}
 use Rattle.gates.specs.Circuit.{Passes}
 use Rattle.gates.proofs.Sites.{Same, Less, Order, before, level, after, order, same-refl, same-sym, same-trans, less-same, same-less, less-trans, less-irrefl, less-asym}
 use Rattle.gates.proofs.Sites.{passes-sym, passes-same, passes-same-right}
-use Rattle.gates.proofs.Push.{NotMeets, NotEnters, Free, free-nil, free-cons, free-same, Turn, meets, enters, stays, turn, push, push-nil, push-meets, push-enters, push-stays}
+use Rattle.gates.proofs.Push.{NotMeets, NotEnters, Free, free-nil, free-cons, free-head, free-tail, free-same, Turn, meets, enters, stays, turn, push, push-nil, push-meets, push-enters, push-stays}
 use Rattle.gates.proofs.Merge.{merged, Sum, gone, one, sum, merged-elim}
 
 -- s is in front: some gate of its site passes all before it
@@ -34,12 +34,6 @@ free-push (a ∷ v) {g} {h} p (free-cons q f) = go (free-push v p f) (turn a v g
     go ih (meets x s) = rw (push-meets x s) (merged-elim (Free h) a g v f (λ y t. free-cons (passes-same-right t q) f))
     go ih (enters x y l) = rw (push-enters x y l) (free-cons p (free-cons q f))
     go ih (stays m i) = rw (push-stays m i) (free-cons q ih)
-
-free-tail : {h a : Gate} {v : List Gate} → Free h (a ∷ v) → Free h v
-free-tail (free-cons p f) = f
-
-free-head : {h a : Gate} {v : List Gate} → Free h (a ∷ v) → Passes h a
-free-head (free-cons p f) = p
 
 pub free-pushed : (v : List Gate) {g h : Gate} → Passes h g → Free h (push v g) → Free h v
 free-pushed [] p f = free-nil

@@ -16,6 +16,12 @@ pub data Free (g : Gate) : List Gate → Type 0 where
   free-nil : Free g []
   free-cons : {a : Gate} {v : List Gate} → Passes g a → Free g v → Free g (a ∷ v)
 
+pub free-head : {g a : Gate} {v : List Gate} → Free g (a ∷ v) → Passes g a
+free-head (free-cons p f) = p
+
+pub free-tail : {g a : Gate} {v : List Gate} → Free g (a ∷ v) → Free g v
+free-tail (free-cons p f) = f
+
 -- g does not merge with a, or does not go before a, with v behind
 abbrev pub NotMeets : Gate → List Gate → Gate → Type 0
 NotMeets a v g = Free g v → Same a g → ⊥
@@ -35,16 +41,10 @@ unfoldable pub free-dec : (g : Gate) (v : List Gate) → Dec (Free g v)
 free-dec g [] = yes free-nil
 free-dec g (a ∷ v) = go (passes-dec g a) (free-dec g v)
   where
-    tail : Free g (a ∷ v) → Free g v
-    tail (free-cons p f) = f
-
-    head : Free g (a ∷ v) → Passes g a
-    head (free-cons p f) = p
-
     go : Dec (Passes g a) → Dec (Free g v) → Dec (Free g (a ∷ v))
     go (yes p) (yes f) = yes (free-cons p f)
-    go (yes p) (no f) = no (λ x. f (tail x))
-    go (no p) d = no (λ x. p (head x))
+    go (yes p) (no f) = no (λ x. f (free-tail x))
+    go (no p) d = no (λ x. p (free-head x))
 
 unfoldable pub turn-of : (a : Gate) (v : List Gate) (g : Gate) → Dec (Free g v) → Order a g → Dec (Passes a g) → Turn a v g
 turn-of a v g (no f) o d = stays (λ x. absurd (f x)) (λ x. absurd (f x))

@@ -48,7 +48,7 @@ module _ (n : ℕ) where
 
   -- ---- a chain keeps circuits valid
 
-  step-all-valid : {c d : List Gate} → Step n c d → AllValid n d
+  pub step-all-valid : {c d : List Gate} → Step n c d → AllValid n d
   step-all-valid (step u v l f k) = k
 
   pub reaches-all-valid : {c d : List Gate} → Reaches n c d → AllValid n c → AllValid n d

@@ -1,33 +1,31 @@
 -- The demands follow from what the jobs say. Assumes nothing.
 use mathlib.Core.Path.{_≡_, refl, sym, ap, _∙_, subst}
-use mathlib.Core.Logic.{_≢_, _↔_}
-use mathlib.Core.Bool.{Bool, true, false, cond, not, _&&_, _||_}
-use mathlib.Core.List.{List, [], _∷_, _++_, map, append-nil}
-use Prim.Native.Nat.{ℕ, zero, suc, _+_, _-_, _≤_, _<_}
+use mathlib.Core.Bool.{Bool, true, false, cond}
+use mathlib.Core.List.{List, [], _∷_, _++_}
+use Prim.Native.Nat.{ℕ, _-_, _≤_, _<_}
 use native.Mathlib.Omega.{arith}
-use lib.ListN.{length, take, drop, replicate, length-append, length-replicate, length-drop}
-use lib.Dec.{ltb, leb, eqb}
-use borrow.Author.Tests.{ltb-true, ltb-false, lt-ltb, le-ltb}
+use lib.ListN.{length, take, drop, replicate}
+use lib.Dec.{ltb}
+use borrow.Author.Tests.{ltb-true, ltb-false}
 use Rattle.gates.specs.declared.Gate.{Gate}
-use Rattle.gates.specs.declared.Gate.the-variants.{Not, Powered}
-use Rattle.gates.specs.Circuit.{AllValid, Step, step, Linked, done, forth, back}
+use Rattle.gates.specs.declared.Gate.the-variants.{Not}
+use Rattle.gates.specs.Circuit.{AllValid, step, Linked, done, forth, back}
 use Rattle.gates.specs.Reduced.{Reduced}
-use Rattle.meaning.specs.State.{SameMatrix}
-use Rattle.cascades.specs.Cascade.{Controlled, expand-all, Realises}
+use Rattle.cascades.specs.Cascade.{Controlled, Realises}
 use Rattle.gates.proofs.Theorem.{nf, nf-reduced, reduced-unique, same-nf}
 use Rattle.meaning.proofs.Links.{same-matrix-sym, reduced-matrix}
 use Rattle.cascades.proofs.Realises.{reduced-realises}
 use Rattle.text.specs.declared.Refusal.{Refusal}
 use Rattle.text.specs.declared.Head.{Head}
 use Rattle.text.specs.Refusals.{number-of}
-use Rattle.text.specs.declared.Refusal.the-variants.{Overlong, ShortList, Malformed, NoSuchLine, Crossed, Unsorted, TooWide, NoSpare, TooMany, ShortAnswer}
-use Rattle.text.specs.Text.{Form, lines, mct, circuit-text, cascade-text, rendered, Proper, AllProper}
+use Rattle.text.specs.declared.Refusal.the-variants.{ShortAnswer}
+use Rattle.text.specs.Text.{lines, circuit-text, cascade-text, AllProper}
 use Rattle.text.specs.Judging.{Kind, cascade, circuit, Judged, turned-away, accepted, judge}
-use Rattle.jobs.specs.Jobs.{Job, mapping, reducing, quoting, takes, Entry, Exit, filled, left, refusal, judged, judged-text, written, answered, Settled, Says}
-use Rattle.jobs.specs.Demands.{Gives, Listed, given, withheld, Ran, Writes, TooLong, Demand1, Meant, Demand2, Defined, Demand3}
-use Rattle.text.proofs.Printed.{rendered-is}
+use Rattle.jobs.specs.Jobs.{Job, mapping, reducing, quoting, takes, Entry, Exit, filled, refusal, judged, written, answered, Settled, Says}
+use Rattle.jobs.specs.Demands.{Gives, Listed, given, withheld, Ran, Meant, Demand2, Defined, Demand3}
 use Rattle.text.proofs.Accepted.{as-forms, Text, accepted-circuit, cascade-of, circuit-of}
 use Rattle.text.proofs.Written.{judge-written}
+use Rattle.text.proofs.Unambiguous.{cascade-text-is}
 use Rattle.jobs.proofs.One.{Passed, judged-accepted, passed-valid}
 
 -- ---- lists
@@ -196,33 +194,6 @@ demand-2 {n} {c} {r} a =
 
 -- ---- whichever cascade a text shows, it is this one
 
-forms-is : (gs hs : List Controlled) → map (λ g. mct (g .controls) (g .target)) gs ≡ map (λ g. mct (g .controls) (g .target)) hs → gs ≡ hs
-forms-is [] [] e = refl
-forms-is [] (h ∷ hs) e = absurd (let z : _≡_ {A = ℕ} 0 1 = cc in omega arith)
-forms-is (g ∷ gs) [] e = absurd (let z : _≡_ {A = ℕ} 0 1 = cc in omega arith)
-forms-is (g ∷ gs) (h ∷ hs) e =
-    let i : mct (g .controls) (g .target) ≡ mct (h .controls) (h .target) = cc in
-    let a : g .controls ≡ h .controls = cc in
-    let b : g .target ≡ h .target = cc in
-    let k : g ≡ h = same-controlled g h a b in
-    let t : gs ≡ hs = forms-is gs hs (ap tail-of e) in
-    cc
-  where
-    tail-of : List Form → List Form
-    tail-of [] = []
-    tail-of (f ∷ fs) = fs
-
-    same-controlled : (u w : Controlled) → u .controls ≡ w .controls → u .target ≡ w .target → u ≡ w
-    same-controlled u w p q = λ i. record { controls = p i; target = q i }
-
-form-tail : List Form → List Form
-form-tail [] = []
-form-tail (f ∷ fs) = fs
-
-pub cascade-text-is : (n : ℕ) (gs hs : List Controlled) → n < 100 → AllProper (as-forms gs) → AllProper (as-forms hs) → cascade-text n gs ≡ cascade-text n hs → gs ≡ hs
-unfolding cascade-text form-tail
-cascade-text-is n gs hs k p q e = forms-is gs hs (ap form-tail (rendered-is (lines n ∷ as-forms gs) (lines n ∷ as-forms hs) (k, p) (k, q) e))
-
 -- from a text that shows the cascade gs, the list does what gs does
 pub demand-2-any : {n : ℕ} {c r : List Gate} (a : Ran n c r) → takes (a .job) ≡ cascade → (gs : List Controlled) → AllProper (as-forms gs) → a .entry .text ≡ cascade-text n gs → Realises n gs r
 unfolding meant-cascade
@@ -230,4 +201,4 @@ demand-2-any {n} {c} {r} a h gs p e =
     let t : Text cascade n (a .entry .text) c = subst (λ (k : Kind). Text k n (a .entry .text) c) h (ran-text a) in
     let k = cascade-of t in
     let l = t .largest in
-    subst (λ (hs : List Controlled). Realises n hs r) (cascade-text-is n (k .mcts) gs (omega arith) (k .proper) p (sym (k .written) ∙ e)) (meant-cascade t (ran-reduced a) .2)
+    subst (λ (hs : List Controlled). Realises n hs r) (cascade-text-is n n (k .mcts) gs (omega arith) (omega arith) (k .proper) p (sym (k .written) ∙ e) .1) (meant-cascade t (ran-reduced a) .2)

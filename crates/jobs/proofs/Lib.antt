@@ -2,3 +2,4 @@ pub mod One
 pub mod Demands
 pub mod Numbers
 pub mod Table
+pub mod Handed

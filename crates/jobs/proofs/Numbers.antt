@@ -1,26 +1,26 @@
 -- Demand 1 follows from what the jobs say. Assumes nothing.
 use mathlib.Core.Path.{_≡_, refl, sym, ap, _∙_, subst}
-use mathlib.Core.Logic.{_≢_, _↔_, _⊎_, inl, inr, ⊎-elim}
-use mathlib.Core.Bool.{Bool, true, false, cond, not, _&&_, _||_}
-use mathlib.Core.List.{List, [], _∷_, _++_, map, append-nil}
-use Prim.Native.Nat.{ℕ, zero, suc, _+_, _-_, _≤_, _<_}
+use mathlib.Core.Logic.{_⊎_, inl, inr, ⊎-elim}
+use mathlib.Core.Bool.{Bool, true, false, cond}
+use mathlib.Core.List.{List, [], _∷_, _++_}
+use Prim.Native.Nat.{ℕ, _+_, _-_, _≤_, _<_}
 use native.Mathlib.Omega.{arith}
-use lib.ListN.{length, take, drop, replicate, length-append, length-replicate, length-drop}
-use lib.Dec.{ltb, leb, eqb}
-use borrow.Author.Tests.{ltb-true, ltb-false, lt-ltb, le-ltb, le-leb, lt-leb}
+use lib.ListN.{length, drop, replicate, length-append, length-replicate, length-drop}
+use lib.Dec.{ltb, leb}
+use borrow.Author.Tests.{le-leb, lt-leb}
 use Rattle.gates.specs.declared.Gate.{Gate}
-use Rattle.gates.specs.declared.Gate.the-variants.{Not, Powered}
+use Rattle.gates.specs.declared.Gate.the-variants.{Not}
 use Rattle.gates.specs.Circuit.{done}
 use Rattle.gates.specs.Reduced.{Reduced}
 use Rattle.gates.proofs.Theorem.{reduced-unique}
 use Rattle.text.specs.declared.Refusal.{Refusal}
 use Rattle.text.specs.declared.Head.{Head}
 use Rattle.text.specs.Refusals.{number-of}
-use Rattle.text.specs.declared.Refusal.the-variants.{Overlong, ShortList, Malformed, NoSuchLine, Crossed, Unsorted, TooWide, NoSpare, TooMany, ShortAnswer}
+use Rattle.text.specs.declared.Refusal.the-variants.{Overlong, ShortList, Malformed, ShortAnswer}
 use Rattle.text.specs.Text.{Form, lines, gate, mct, circuit-text}
 use Rattle.text.specs.Reading.{Line, in-form, unformed, cut}
-use Rattle.text.specs.Judging.{Kind, cascade, circuit, Judged, turned-away, accepted, judge, gates, Found, sound, breaks, Rule, rule, first, head-rules, rules, or-else, judge-lines, judge-text, read-all}
-use Rattle.jobs.specs.Jobs.{Job, mapping, reducing, quoting, takes, Entry, Exit, filled, left, refusal, judged, judged-text, written, answered, Settled, Says}
+use Rattle.text.specs.Judging.{Kind, Judged, turned-away, accepted, judge, gates, Found, sound, breaks, Rule, rule, first, head-rules, rules, or-else, judge-lines, judge-text, read-all}
+use Rattle.jobs.specs.Jobs.{Job, mapping, reducing, quoting, takes, Entry, Exit, filled, left, refusal, judged, judged-text, size-rules, answered, Says}
 use Rattle.jobs.specs.Demands.{Writes, TooLong, Demand1}
 use Rattle.text.proofs.Accepted.{accepted-head, accepted-circuit}
 use Rattle.jobs.proofs.One.{judged-accepted}
@@ -102,13 +102,13 @@ unfolding judge
 judge-away k s e = text-away k (read-all (cut s)) e
 
 pub judged-away : (k : Kind) (e : Entry) {r : Refusal} {l : ℕ} → judged k e ≡ turned-away r l → (1 ≤ number-of r) × (number-of r ≤ 9)
-unfolding judged judged-text
+unfolding judged judged-text size-rules first or-else
 judged-away k e {r} {l} q = go (ltb 60000 (length (e .text))) (ltb (length (e .list)) 4096) q
   where
     one : (s : Refusal) → (1 ≤ number-of s) × (number-of s ≤ 9) → turned-away s 0 ≡ turned-away r l → (1 ≤ number-of r) × (number-of r ≤ 9)
     one s a h = subst (λ (t : Refusal). (1 ≤ number-of t) × (number-of t ≤ 9)) (away-refusal h .0) a
 
-    go : (a b : Bool) → cond a (turned-away Overlong 0) (cond b (turned-away ShortList 0) (judge k (e .text))) ≡ turned-away r l → (1 ≤ number-of r) × (number-of r ≤ 9)
+    go : (a b : Bool) → or-else (first (rule Overlong a ∷ rule ShortList b ∷ [])) 0 (judge k (e .text)) ≡ turned-away r l → (1 ≤ number-of r) × (number-of r ≤ 9)
     go true b h = one Overlong (unfold number-of in (omega arith, omega arith)) h
     go false true h = one ShortList (unfold number-of in (omega arith, omega arith)) h
     go false false h = let x = judge-away k (e .text) h in (omega (arith, x .0 .0), x .0 .1)

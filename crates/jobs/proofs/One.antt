@@ -1,20 +1,18 @@
 -- For every entry there is exactly one exit that a job's contract allows. Assumes nothing.
-use mathlib.Core.Path.{_≡_, refl, sym, ap, _∙_, subst}
-use mathlib.Core.Bool.{Bool, true, false, cond}
+use mathlib.Core.Path.{_≡_, refl, ap, _∙_}
+use mathlib.Core.Bool.{Bool, true, false}
 use mathlib.Core.List.{List, [], _∷_}
-use Prim.Native.Nat.{ℕ, _≤_, _<_}
-use native.Mathlib.Omega.{arith}
+use Prim.Native.Nat.{_≤_}
 use lib.ListN.{length}
 use lib.Dec.{ltb}
 use borrow.Author.Tests.{ltb-false}
 use Rattle.gates.specs.declared.Gate.{Gate}
 use Rattle.gates.specs.Circuit.{AllValid}
 use Rattle.gates.proofs.Theorem.{nf, nf-reduced, reduced-unique}
-use Rattle.text.specs.declared.Refusal.{Refusal}
 use Rattle.text.specs.declared.Head.{Head}
 use Rattle.text.specs.declared.Refusal.the-variants.{Overlong, ShortList}
-use Rattle.text.specs.Judging.{Kind, Judged, turned-away, accepted, judge}
-use Rattle.jobs.specs.Jobs.{Job, takes, Entry, Exit, refusal, judged, judged-text, answered, Settled, Says}
+use Rattle.text.specs.Judging.{Kind, Judged, turned-away, accepted, rule, first, or-else, judge}
+use Rattle.jobs.specs.Jobs.{Job, takes, Entry, Exit, refusal, judged, judged-text, size-rules, answered, Settled, Says}
 use Rattle.text.proofs.Accepted.{Text, away-accepted, judge-accepted, text-valid}
 
 -- what rules 1 and 2 let pass
@@ -24,10 +22,10 @@ pub record Passed (k : Kind) (e : Entry) (h : Head) (c : List Gate) : Type 0 whe
   pub text : Text k (h .lines) (e .text) c
 
 pub judged-accepted : (k : Kind) (e : Entry) {h : Head} {c : List Gate} → judged k e ≡ accepted h c → Passed k e h c
-unfolding judged judged-text
+unfolding judged judged-text size-rules first or-else
 judged-accepted k e {h} {c} q = go (ltb 60000 (length (e .text))) refl (ltb (length (e .list)) 4096) refl q
   where
-    go : (a : Bool) → ltb 60000 (length (e .text)) ≡ a → (b : Bool) → ltb (length (e .list)) 4096 ≡ b → cond a (turned-away Overlong 0) (cond b (turned-away ShortList 0) (judge k (e .text))) ≡ accepted h c → Passed k e h c
+    go : (a : Bool) → ltb 60000 (length (e .text)) ≡ a → (b : Bool) → ltb (length (e .list)) 4096 ≡ b → or-else (first (rule Overlong a ∷ rule ShortList b ∷ [])) 0 (judge k (e .text)) ≡ accepted h c → Passed k e h c
     go true p b r z = absurd (away-accepted z)
     go false p true r z = absurd (away-accepted z)
     go false p false r z = record { small = ltb-false 60000 (length (e .text)) p; room = ltb-false (length (e .list)) 4096 r; text = judge-accepted k (e .text) z }

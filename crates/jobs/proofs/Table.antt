@@ -1,9 +1,8 @@
 -- The starred examples hold. Assumes nothing.
-use mathlib.Core.Path.{_≡_, refl, sym, ap, _∙_, subst}
-use mathlib.Core.Bool.{Bool, true, false, cond, not, _&&_}
-use mathlib.Core.List.{List, [], _∷_, _++_}
-use Prim.Native.Nat.{ℕ, _≤_, _<_, _-_}
-use Prim.Native.String.{String}
+use mathlib.Core.Path.{_≡_, refl, ap, _∙_}
+use mathlib.Core.Bool.{Bool, true, false, not, _&&_}
+use mathlib.Core.List.{List, [], _∷_}
+use Prim.Native.Nat.{ℕ, _≤_}
 use native.Mathlib.Omega.{arith}
 use native.Mathlib.Decide.{ℕ-discrete, decLt}
 use lib.ListN.{length, take, drop}
@@ -12,7 +11,6 @@ use borrow.Author.Tests.{le-ltb, eqb-true, not-true}
 use Rattle.gates.specs.declared.Gate.{Gate}
 use Rattle.gates.specs.Circuit as C
 use Rattle.gates.specs.Circuit.{slot, power, powered}
-use Rattle.gates.specs.Reduced.{Reduced}
 use Rattle.meaning.specs.Pattern.{has}
 use Rattle.gates.specs.Inverse.{inverse, inverted}
 use Rattle.cascades.specs.Expansion.{spare, _⨾_, joined, expand, expansion}
@@ -21,23 +19,21 @@ use Rattle.gates.proofs.Sites.{order-targets-equal, order-targets, order, passe
 use Rattle.gates.proofs.Merge.{merged}
 use Rattle.gates.proofs.Push.{free-dec, turn-of, turn, place, push}
 use Rattle.gates.proofs.Theorem.{nf, nf-reduced, reduced-unique}
-use Rattle.text.specs.declared.Refusal.{Refusal}
 use Rattle.text.specs.declared.Head.{Head}
 use Rattle.text.specs.Refusals.{number-of}
-use Rattle.text.specs.declared.Refusal.the-variants.{Overlong, ShortList, NoSpare, ShortAnswer}
-use Rattle.text.specs.Text.{bytes, digits, spaced, one, two, word, render, rendered, circuit-text}
+use Rattle.text.specs.Text.{digits, spaced, one, two, word, render, rendered, circuit-text}
 use Rattle.text.specs.Reading as R
 use Rattle.text.specs.Reading.{strip, second, num, tail, pair, list, many, lines-body, not-body, mct-body, powered-body, parse, whole, read, longer, cut}
 use Rattle.text.specs.Judging as J
-use Rattle.text.specs.Judging.{Kind, cascade, circuit, Judged, turned-away, accepted, belongs, most, any-from, rising, first, head-rules, rules, or-else, judge-lines, judge-text, read-all, judge}
-use Rattle.jobs.specs.Jobs.{Job, mapping, reducing, quoting, takes, Entry, Exit, refusal, judged, judged-text, written, answered, Says}
+use Rattle.text.specs.Judging.{Kind, Judged, turned-away, accepted, belongs, most, any-from, rising, first, head-rules, rules, or-else, judge-lines, judge-text, read-all, judge}
+use Rattle.jobs.specs.Jobs.{Job, mapping, reducing, quoting, takes, Entry, Exit, refusal, judged, judged-text, size-rules, written, answered, Says}
 use Rattle.jobs.specs.Examples.{typed, Answer, text, gates, away, Row, gives, expands, Shows, room, Holds, All, table}
 use Rattle.jobs.proofs.One.{judged-accepted, passed-valid}
 use Rattle.jobs.proofs.Demands.{says-accepted, says-turned-away, take-front}
 
 -- rules 1 and 2 let a short text and a long list pass
 judged-is : (k : Kind) (e : Entry) (s : List ℕ) → e .text ≡ s → ltb 60000 (length s) ≡ false → 4096 ≤ length (e .list) → judged k e ≡ judge k s
-unfolding judged judged-text
+unfolding judged judged-text size-rules first or-else
 judged-is k e s q h l = rw (q, h, le-ltb (length (e .list)) 4096 l)
 
 -- what a job answers where its text is accepted

@@ -3,7 +3,7 @@
 use Prim.Native.Nat.{ℕ, _-_}
 use mathlib.Core.Path.{_≡_}
 use mathlib.Core.Bool.{cond}
-use mathlib.Core.List.{List, _++_}
+use mathlib.Core.List.{List, [], _∷_, _++_}
 use lib.ListN.{length, drop, replicate}
 use lib.Dec.{leb, ltb}
 use Rattle.gates.specs.declared.Gate.{Gate}
@@ -14,7 +14,7 @@ use Rattle.text.specs.declared.Refusal.the-variants.{Overlong, ShortList, Short
 use Rattle.text.specs.declared.Head.{Head}
 use Rattle.text.specs.Refusals.{number-of}
 use Rattle.text.specs.Text.{circuit-text}
-use Rattle.text.specs.Judging.{Kind, cascade, circuit, Judged, turned-away, accepted, judge}
+use Rattle.text.specs.Judging.{Kind, cascade, circuit, Judged, turned-away, accepted, Rule, rule, first, or-else, judge}
 
 -- map a cascade text to a circuit text, reduce a circuit text, quote the gate count of a cascade
 pub data Job : Type 0 where
@@ -52,12 +52,15 @@ refusal r l e = record { number = number-of r; line = l; count = 0; list = left 
 
 -- ---- rules 1 to 9: "Rule 1 comes first, then 2, both with line 0. Then the lines in order"
 
--- a text, where the gate list has this many records
+-- for a text of this size and a gate list of this many records
+unfoldable pub size-rules : ℕ → ℕ → List Rule
+size-rules size records =
+    rule Overlong (ltb 60000 size)
+    ∷ rule ShortList (ltb records 4096)
+    ∷ []
+
 unfoldable pub judged-text : Kind → List ℕ → ℕ → Judged
-judged-text k s records =
-    cond (ltb 60000 (length s)) (turned-away Overlong 0)
-    (cond (ltb records 4096) (turned-away ShortList 0)
-    (judge k s))
+judged-text k s records = or-else (first (size-rules (length s) records)) 0 (judge k s)
 
 unfoldable pub judged : Kind → Entry → Judged
 judged k e = judged-text k (e .text) (length (e .list))

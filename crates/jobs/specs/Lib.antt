@@ -1,3 +1,4 @@
 pub mod Jobs
 pub mod Demands
 pub mod Examples
+pub mod Handing

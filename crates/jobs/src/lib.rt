@@ -1,1 +1,207 @@
 // The three jobs: map a cascade text, reduce a circuit text, quote the gate count of a cascade text.
+use gates::Gate;
+use loading::Loaded;
+use loading::Verdict;
+use records::Done;
+use records::Outcome;
+use text::Head;
+use text::Refusal;
+ghost use mathlib.Core.Path.{_≡_};
+ghost use mathlib.Core.Bool.{cond};
+ghost use mathlib.Core.List.{[]};
+ghost use Prim.Native.Nat.{_≤_};
+ghost use lib.Dec.{leb};
+ghost use lib.ListN.{length, take};
+ghost use Rattle.gates.specs.Code.{AllCodes};
+ghost use Rattle.text.specs.Judging.{cascade, circuit, first};
+ghost use Rattle.loading.specs.Seen.{seen-verdict};
+ghost use Rattle.loading.specs.Loaded.{LoadsTo};
+ghost use Rattle.jobs.specs.Jobs.{mapping, reducing, quoting, size-rules, judged-text, Says};
+ghost use Rattle.jobs.specs.Handing.{Hands, Own, refused, succeeded, written-done, written-area, text-done, text-area, count-done, Writable, Answerable};
+
+// How many records a refusal writes: none for 1 and 2, else all.
+fn limit(number: u8, room: usize) -> usize
+    ensures { λ r. ⌜ r ≡ cond (leb number 2) 0 room ⌝ }
+{
+    if number <= 2 {
+        return 0;
+    }
+    room
+}
+
+// A refusal, with its line.
+fn refuse(r: Refusal, line: usize, room: usize, codes: [u16; 4096]) -> Done
+    ensures { λ d. ⌜ d ≡ refused r line room codes ⌝ }
+{
+    let number = text::number(r);
+    let outcome = Outcome {
+        number,
+        line,
+        count: 0,
+    };
+    Done {
+        codes,
+        gates: 0,
+        limit: limit(number, room),
+        outcome,
+    }
+}
+
+// Success, with the first m codes and a count.
+fn succeed(m: usize, count: usize, room: usize, codes: [u16; 4096]) -> Done
+    ensures { λ d. ⌜ d ≡ succeeded m count room codes ⌝ }
+{
+    let outcome = Outcome {
+        number: 0,
+        line: 0,
+        count,
+    };
+    Done {
+        codes,
+        gates: m,
+        limit: room,
+        outcome,
+    }
+}
+
+// The first m codes written as a circuit text, where the answer area has room for it.
+fn answer_text(head: Head, m: usize, room: usize, codes: [u16; 4096], answer: &mut [u8]) -> Done
+    requires { ⌜ Writable head m codes ⌝ }
+    ensures { λ d. ⌜ (d ≡ written-done head m room codes (now (answer .entry))) × (now (answer .exit) ≡ written-area head m codes (now (answer .entry))) ⌝ }
+{
+    let size = writing::measure(head, &codes, m);
+    if answer.len() < size {
+        return refuse(Refusal::ShortAnswer, 0, room, codes);
+    }
+    let count = writing::write_circuit(head, &codes, m, answer);
+    succeed(m, count, room, codes)
+}
+
+// The answer of map and reduce, by what the text was loaded as.
+fn answer_loaded(loaded: Loaded, room: usize, codes: [u16; 4096], answer: &mut [u8]) -> Done
+    requires { ⌜ Answerable loaded codes ⌝ }
+    ensures { λ d. ⌜ (d ≡ text-done loaded room codes (now (answer .entry))) × (now (answer .exit) ≡ text-area loaded codes (now (answer .entry))) ⌝ }
+{
+    match loaded {
+        Loaded::Accepted(head, m) => answer_text(head, m, room, codes, answer),
+        Loaded::Refused(r, line) => refuse(r, line, room, codes),
+    }
+}
+
+// The answer of quote, by what the text was loaded as.
+fn count_loaded(loaded: Loaded, room: usize, codes: [u16; 4096]) -> Done
+    ensures { λ d. ⌜ d ≡ count-done loaded room codes ⌝ }
+{
+    match loaded {
+        Loaded::Accepted(_, m) => succeed(m, m, room, codes),
+        Loaded::Refused(r, line) => refuse(r, line, room, codes),
+    }
+}
+
+// Rules 1 and 2, for a text of this size and a gate list of `room` records.
+fn size_rules(size: usize, room: usize) -> Verdict
+    ensures { λ r. ⌜ seen-verdict r ≡ first (size-rules size room) ⌝ }
+{
+    if 60000 < size {
+        return Verdict::Breaks(Refusal::Overlong);
+    }
+    if room < 4096 {
+        return Verdict::Breaks(Refusal::ShortList);
+    }
+    Verdict::Keeps
+}
+
+// Loads a cascade text, where the gate list has `room` records.
+fn take_cascade(text: &[u8], room: usize, codes: &mut [u16]) -> Loaded
+    requires { ⌜ 4096 ≤ length (now codes) ⌝ }
+    ensures { λ r. ⌜ LoadsTo (judged-text cascade (now (text .entry)) room) (now (codes .exit)) r ⌝ }
+{
+    if let Verdict::Breaks(r) = size_rules(text.len(), room) {
+        return Loaded::Refused(r, 0);
+    }
+    loading::load_cascade(text, codes)
+}
+
+// Loads a circuit text, where the gate list has `room` records.
+fn take_circuit(text: &[u8], room: usize, codes: &mut [u16]) -> Loaded
+    requires { ⌜ 4096 ≤ length (now codes) ⌝ }
+    ensures { λ r. ⌜ LoadsTo (judged-text circuit (now (text .entry)) room) (now (codes .exit)) r ⌝ }
+{
+    if let Verdict::Breaks(r) = size_rules(text.len(), room) {
+        return Loaded::Refused(r, 0);
+    }
+    loading::load_circuit(text, codes)
+}
+
+// The covered part of map.
+pub fn map_codes(text: &[u8], room: usize, answer: &mut [u8]) -> Done
+    ensures { λ d. ⌜ Hands mapping (now (text .entry)) room (now (answer .entry)) d (now (answer .exit)) ⌝ }
+{
+    let mut codes = [0u16; 4096];
+    let loaded = take_cascade(text, room, &mut codes);
+    answer_loaded(loaded, room, codes, answer)
+}
+
+// The covered part of reduce.
+pub fn reduce_codes(text: &[u8], room: usize, answer: &mut [u8]) -> Done
+    ensures { λ d. ⌜ Hands reducing (now (text .entry)) room (now (answer .entry)) d (now (answer .exit)) ⌝ }
+{
+    let mut codes = [0u16; 4096];
+    let loaded = take_circuit(text, room, &mut codes);
+    answer_loaded(loaded, room, codes, answer)
+}
+
+// The covered part of quote.
+pub fn quote_codes(text: &[u8], room: usize) -> Done
+    ensures { λ d. ⌜ Hands quoting (now (text .entry)) room [] d [] ⌝ }
+{
+    let mut codes = [0u16; 4096];
+    let loaded = take_cascade(text, room, &mut codes);
+    count_loaded(loaded, room, codes)
+}
+
+// Maps a cascade text to a circuit text.
+pub fn map(text: &[u8], list: &mut [Gate], answer: &mut [u8]) -> Outcome
+    ensures { λ r. ⌜ Says mapping (record { text = now (text .entry); list = now (list .entry); area = now (answer .entry) }) (record { number = r .number; line = r .line; count = r .count; list = now (list .exit); area = now (answer .exit) }) ⌝ }
+{
+    let d = map_codes(text, list.len(), answer);
+    records::finish(list, d)
+}
+
+// Reduces a circuit text.
+pub fn reduce(text: &[u8], list: &mut [Gate], answer: &mut [u8]) -> Outcome
+    ensures { λ r. ⌜ Says reducing (record { text = now (text .entry); list = now (list .entry); area = now (answer .entry) }) (record { number = r .number; line = r .line; count = r .count; list = now (list .exit); area = now (answer .exit) }) ⌝ }
+{
+    let d = reduce_codes(text, list.len(), answer);
+    records::finish(list, d)
+}
+
+// Quotes the gate count of a cascade text.
+pub fn quote(text: &[u8], list: &mut [Gate]) -> Outcome
+    ensures { λ r. ⌜ Says quoting (record { text = now (text .entry); list = now (list .entry); area = [] }) (record { number = r .number; line = r .line; count = r .count; list = now (list .exit); area = [] }) ⌝ }
+{
+    let d = quote_codes(text, list.len());
+    records::finish(list, d)
+}
+
+// Map with a gate list of its own, as the other two below.
+pub fn map_text(text: &[u8], answer: &mut [u8]) -> Outcome
+    ensures { λ r. ⌜ Own mapping (now (text .entry)) (now (answer .entry)) r (now (answer .exit)) ⌝ }
+{
+    let mut list = [Gate::Not(0); 4096];
+    map(text, &mut list, answer)
+}
+
+pub fn reduce_text(text: &[u8], answer: &mut [u8]) -> Outcome
+    ensures { λ r. ⌜ Own reducing (now (text .entry)) (now (answer .entry)) r (now (answer .exit)) ⌝ }
+{
+    let mut list = [Gate::Not(0); 4096];
+    reduce(text, &mut list, answer)
+}
+
+pub fn quote_text(text: &[u8]) -> Outcome
+    ensures { λ r. ⌜ Own quoting (now (text .entry)) [] r [] ⌝ }
+{
+    let mut list = [Gate::Not(0); 4096];
+    quote(text, &mut list)
+}

@@ -1,36 +1,22 @@
--- Laws of patterns.
-use mathlib.Core.Path.{_≡_, refl, sym, _∙_, ap, fun-ext}
+-- Laws of patterns: a flipped bit, the controls of a gate, and the mct gate on a pattern. Assumes nothing.
+use mathlib.Core.Path.{_≡_, refl, sym, _∙_, fun-ext}
 use mathlib.Core.Logic.{_≢_}
-use mathlib.Core.Bool.{Bool, true, false, not, cond, _&&_, _||_, Bool·not-not}
+use mathlib.Core.Bool.{Bool, true, false, not, cond, _&&_, _||_, true≢false, false≢true, and-assoc, or-assoc, Bool·not-not}
 use mathlib.Core.List.{List, [], _∷_, _++_}
-use Prim.Native.Nat.{ℕ, zero, suc, _≤_, _<_}
-use native.Mathlib.Omega.{arith}
-use lib.Dec.{T, eqb, eqb→eq, eqb-refl}
+use Prim.Native.Nat.{ℕ}
+use lib.Dec.{eqb}
+use borrow.Author.Tests.{eq-eqb, ne-eqb, eqb-false, not-true}
 use Rattle.meaning.specs.Pattern.{Pattern, flip, holds, mct, has, distinct}
 
-T-true : (b : Bool) → T b → b ≡ true
-T-true true h = refl
-
-pub eqb-same : (i : ℕ) → eqb i i ≡ true
-eqb-same i = T-true (eqb i i) (eqb-refl i)
-
-pub eqb-other : (i j : ℕ) → i ≢ j → eqb i j ≡ false
-eqb-other i j h = go (eqb i j) (eqb→eq i j)
-  where
-    go : (b : Bool) → (T b → i ≡ j) → b ≡ false
-    go true f = absurd (h (f tt))
-    go false f = refl
-
-pub eqb-false : (i j : ℕ) → eqb i j ≡ false → i ≢ j
-eqb-false i j e h = let same : eqb i j ≡ true = rw h (eqb-same j) in let z : _≡_ {A = ℕ} 0 1 = cc in omega arith
+-- ---- a flipped bit
 
 pub flip-at : (t : ℕ) (x : Pattern) → flip t x t ≡ not (x t)
 unfolding flip
-flip-at t x = rw eqb-same
+flip-at t x = rw (eq-eqb t t refl)
 
 pub flip-other : (t i : ℕ) (x : Pattern) → i ≢ t → flip t x i ≡ x i
 unfolding flip
-flip-other t i x h = rw (eqb-other i t h)
+flip-other t i x h = rw (ne-eqb i t h)
 
 pub flip-flip : (t : ℕ) (x : Pattern) → flip t (flip t x) ≡ x
 unfolding flip
@@ -50,14 +36,16 @@ flip-comm s t x = fun-ext λ i. go (eqb i s) (eqb i t) (x i)
     go false true b = refl
     go false false b = refl
 
+-- ---- lists of lines
+
 -- both parts of a disjunction that fails
 pub neither : (a b : Bool) → (a || b) ≡ false → (a ≡ false) × (b ≡ false)
-neither true b e = absurd (let z : _≡_ {A = ℕ} 0 1 = cc in omega arith)
+neither true b e = absurd (true≢false e)
 neither false b e = (refl, e)
 
 pub both : (a b : Bool) → (a && b) ≡ true → (a ≡ true) × (b ≡ true)
 both true b e = (refl, e)
-both false b e = absurd (let z : _≡_ {A = ℕ} 0 1 = cc in omega arith)
+both false b e = absurd (false≢true e)
 
 -- b, flipped if c
 abbrev pub toggle : Bool → Bool → Bool
@@ -66,32 +54,22 @@ toggle c b = cond c (not b) b
 pub holds-append : (a b : List ℕ) (x : Pattern) → holds (a ++ b) x ≡ (holds a x && holds b x)
 unfolding holds
 holds-append [] b x = refl
-holds-append (c ∷ a) b x = rw (holds-append a b x) (go (x c))
-  where
-    go : (p : Bool) → (p && (holds a x && holds b x)) ≡ ((p && holds a x) && holds b x)
-    go true = refl
-    go false = refl
+holds-append (c ∷ a) b x = rw (holds-append a b x) (sym (and-assoc (x c) (holds a x) (holds b x)))
 
 pub has-append : (j : ℕ) (a b : List ℕ) → has j (a ++ b) ≡ (has j a || has j b)
 unfolding has
 has-append j [] b = refl
-has-append j (c ∷ a) b = rw (has-append j a b) (go (eqb j c))
-  where
-    go : (p : Bool) → (p || (has j a || has j b)) ≡ ((p || has j a) || has j b)
-    go true = refl
-    go false = refl
-
-not-either : (p q : Bool) → not (p || q) ≡ true → p ≡ false
-not-either true q f = absurd (let z : _≡_ {A = ℕ} 0 1 = cc in omega arith)
-not-either false q f = refl
+has-append j (c ∷ a) b = rw (has-append j a b) (sym (or-assoc (eqb j c) (has j a) (has j b)))
 
 pub distinct-append : (a b : List ℕ) → distinct (a ++ b) ≡ true → (distinct a ≡ true) × (distinct b ≡ true)
 unfolding distinct
 distinct-append [] b e = (refl, e)
 distinct-append (c ∷ a) b e = let two = both (not (has c (a ++ b))) (distinct (a ++ b)) e in
     let rest = distinct-append a b (two .1) in
-    let fresh : has c a ≡ false = not-either (has c a) (has c b) (rw (← has-append c a b) (two .0)) in
+    let fresh : has c a ≡ false = neither (has c a) (has c b) (sym (has-append c a b) ∙ not-true (has c (a ++ b)) (two .0)) .0 in
     (rw (fresh, rest .0), rest .1)
+
+-- ---- the mct gate
 
 pub holds-flip : (t : ℕ) (cs : List ℕ) (x : Pattern) → has t cs ≡ false → holds cs (flip t x) ≡ holds cs x
 unfolding holds has

@@ -6,3 +6,5 @@ pub mod Runs
 pub mod SameMatrix
 pub mod Links
 pub mod Lines
+pub mod Starts
+pub mod Examples

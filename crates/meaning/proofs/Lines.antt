@@ -1,17 +1,16 @@
 -- Nothing beyond the n lines of a circuit counts: not in the pattern that a run starts from, nor in the one at which its amplitude is read.
 -- So the same matrix is a matter of 2^n times 2^n entries. Assumes nothing.
-use mathlib.Core.Path.{_≡_, refl, sym, _∙_, ap, fun-ext}
+use mathlib.Core.Path.{_≡_, fun-ext}
 use mathlib.Core.Logic.{_↔_}
-use mathlib.Core.Bool.{Bool, true, false, cond}
+use mathlib.Core.Bool.{true}
 use mathlib.Core.List.{List, [], _∷_}
 use Prim.Native.Nat.{ℕ, _^_, _<_}
 use Rattle.gates.specs.declared.Gate.{Gate}
-use Rattle.gates.specs.declared.Gate.the-variants.{Not, Powered}
 use Rattle.gates.specs.Circuit.{Valid, valid-not, valid-powered, AllValid}
-use Rattle.meaning.specs.Amplitude.{one, nought, doubled}
 use Rattle.meaning.specs.Pattern.{Pattern, flip, agree, pattern, number}
-use Rattle.meaning.specs.State.{State, basis, apply, run, powered-gates, SameAmplitude, SameMatrix}
-use Rattle.meaning.proofs.Patterns.{agree-is, agree-sym, agree-left, agree-right, flip-agree, number-below, pattern-number}
+use Rattle.meaning.specs.State.{State, basis, apply, run, SameAmplitude, SameMatrix}
+use Rattle.meaning.proofs.Runs.{apply-not, apply-mix}
+use Rattle.meaning.proofs.Patterns.{agree-is, agree-left, agree-right, flip-agree, number-below, pattern-number}
 
 -- ---- the start
 
@@ -31,9 +30,10 @@ unfolding OfLines basis
 basis-of-lines n y x x′ e = rw (agree-left n x x′ y e)
 
 apply-of-lines : (n : ℕ) {g : Gate} → Valid n g → (ψ : State) → OfLines n ψ → OfLines n (apply g ψ)
-unfolding OfLines apply
-apply-of-lines n (valid-not {t} l) ψ h x x′ e = h (flip t x) (flip t x′) (flip-agree n t x x′ e)
-apply-of-lines n (valid-powered {p} {c} {t} a b k l d) ψ h x x′ e = rw (agree-is n x x′ e c k, h x x′ e, h (flip t x) (flip t x′) (flip-agree n t x x′ e))
+unfolding OfLines
+apply-of-lines n (valid-not {t} l) ψ h x x′ e = rw (apply-not t ψ x, apply-not t ψ x′) (h (flip t x) (flip t x′) (flip-agree n t x x′ e))
+apply-of-lines n (valid-powered {p} {c} {t} a b k l d) ψ h x x′ e =
+    rw (apply-mix p c t ψ x, apply-mix p c t ψ x′, agree-is n x x′ e c k, h x x′ e, h (flip t x) (flip t x′) (flip-agree n t x x′ e))
 
 -- a circuit on n lines takes a state of n lines to such a state
 pub run-of-lines : (n : ℕ) (c : List Gate) → AllValid n c → (ψ : State) → OfLines n ψ → OfLines n (run c ψ)
@@ -60,5 +60,5 @@ same-entries n a b f g = (λ e i j h k. e (pattern j) (pattern i), λ e y x. all
     at : (c : List Gate) → AllValid n c → (y x : Pattern) → run c (basis n (pattern (number n y))) (pattern (number n x)) ≡ run c (basis n y) x
     at c w y x = run-agree n c w (pattern (number n y)) y (pattern (number n x)) x (pattern-number n y) (pattern-number n x)
 
-    all : SameEntries n a b → (y x : Pattern) → doubled (powered-gates b) (run a (basis n y) x) ≡ doubled (powered-gates a) (run b (basis n y) x)
+    all : SameEntries n a b → (y x : Pattern) → SameAmplitude a b (basis n y) x
     all e y x = rw (← at a f y x, ← at b g y x) (e (number n x) (number n y) (number-below n x) (number-below n y))

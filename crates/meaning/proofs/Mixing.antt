@@ -1,16 +1,18 @@
--- The laws of amplitudes and of `mix`.
-use mathlib.Core.Path.{_≡_, refl, sym, _∙_, ap, ap₂, subst}
-use Prim.Native.Nat.{ℕ, zero, suc, _+_, _≤_, _<_, _%_}
+-- Laws of amplitudes: sums and products as in every ring, products of the four doubled matrices, and 2^m times. Assumes nothing.
+use mathlib.Core.Path.{_≡_, refl, sym, _∙_, ap}
+use Prim.Native.Nat.{ℕ, zero, suc, _+_, _<_, _%_}
 use native.Mathlib.Omega.{arith}
 use native.Mathlib.Nat.{zero-add, suc-add}
-use lib.IntN.{ℤ, pos, negsuc, negℤ, _+ℤ_, _-ℤ_, _*ℤ_, +ℤ-comm, +ℤ-assoc, negℤ-+ℤ}
-use Rattle.meaning.specs.Amplitude.{Amplitude, nought, _⊕_, _⊗_, doubled, diagonal, off-diagonal, mix}
+use lib.IntN.{ℤ, negℤ, _+ℤ_, _*ℤ_, +ℤ-comm, +ℤ-assoc, +ℤ-idl, +ℤ-idr, negℤ-+ℤ, *ℤ-comm, *ℤ-one, *ℤ-zero, one as one-ℤ}
+use Rattle.meaning.specs.Amplitude.{Amplitude, one, nought, _⊕_, _⊗_, doubled, diagonal, off-diagonal, mix}
 use Rattle.meaning.proofs.Whole.{_⊖_, split, same, whole, zero-is, two-is, halve}
 
 pub same-amplitude : {a b : Amplitude} → a .re ≡ b .re → a .im ≡ b .im → a ≡ b
 same-amplitude p q = λ i. record { re = p i; im = q i }
 
--- the laws of integers that `lib.IntN` lacks
+-- ---- integers
+
+-- laws that `lib.IntN` lacks
 *ℤ-assoc : (x y z : ℤ) → x *ℤ y *ℤ z ≡ x *ℤ (y *ℤ z)
 *ℤ-assoc x y z = rw (split x, split y, split z) (simp whole (same _ _ _ _ (omega arith)))
 
@@ -31,9 +33,11 @@ neg-*ℤ x y = rw (split x, split y) (simp whole (same _ _ _ _ (omega arith)))
 
 ruleset integers = (*ℤ-sum, sum-*ℤ, *ℤ-neg, neg-*ℤ, negℤ-+ℤ, *ℤ-assoc, +ℤ-assoc, +ℤ-comm, +ℤ-left)
 
+-- ---- sums and products
+
 pub ⊗-comm : (a b : Amplitude) → a ⊗ b ≡ b ⊗ a
-unfolding _⊕_ _⊗_
-⊗-comm a b = same-amplitude (rw (split (a .re), split (a .im), split (b .re), split (b .im)) (simp whole (same _ _ _ _ (omega arith)))) (rw (split (a .re), split (a .im), split (b .re), split (b .im)) (simp whole (same _ _ _ _ (omega arith))))
+unfolding _⊗_
+⊗-comm a b = same-amplitude (rw (*ℤ-comm (a .re) (b .re), *ℤ-comm (a .im) (b .im))) (rw (*ℤ-comm (a .re) (b .im), *ℤ-comm (a .im) (b .re)) (+ℤ-comm (b .im *ℤ a .re) (b .re *ℤ a .im)))
 
 pub ⊗-assoc : (a b c : Amplitude) → a ⊗ b ⊗ c ≡ a ⊗ (b ⊗ c)
 unfolding _⊗_
@@ -41,7 +45,7 @@ unfolding _⊗_
 
 pub ⊗-⊕ : (a b c : Amplitude) → a ⊗ (b ⊕ c) ≡ a ⊗ b ⊕ a ⊗ c
 unfolding _⊕_ _⊗_
-⊗-⊕ a b c = same-amplitude (rw (split (a .re), split (a .im), split (b .re), split (b .im), split (c .re), split (c .im)) (simp whole (same _ _ _ _ (omega arith)))) (rw (split (a .re), split (a .im), split (b .re), split (b .im), split (c .re), split (c .im)) (simp whole (same _ _ _ _ (omega arith))))
+⊗-⊕ a b c = same-amplitude (simp integers) (simp integers)
 
 pub ⊕-comm : (a b : Amplitude) → a ⊕ b ≡ b ⊕ a
 unfolding _⊕_
@@ -60,10 +64,31 @@ pub ⊗-left : (a b c : Amplitude) → a ⊗ (b ⊗ c) ≡ b ⊗ (a ⊗ c)
 pub ⊕-⊗ : (a b c : Amplitude) → (a ⊕ b) ⊗ c ≡ a ⊗ c ⊕ b ⊗ c
 ⊕-⊗ a b c = ⊗-comm (a ⊕ b) c ∙ ⊗-⊕ c a b ∙ rw (⊗-comm c a, ⊗-comm c b)
 
+-- 1 and 0
+pub times-one : (a : Amplitude) → a ⊗ one ≡ a
+unfolding _⊗_ one-ℤ
+times-one a = same-amplitude (rw (*ℤ-one (a .re), *ℤ-zero (a .im)) (+ℤ-idr (a .re))) (rw (*ℤ-zero (a .re), *ℤ-one (a .im)) (+ℤ-idl (a .im)))
+
+pub times-nought : (a : Amplitude) → a ⊗ nought ≡ nought
+unfolding _⊗_
+times-nought a = same-amplitude (rw (*ℤ-zero (a .re), *ℤ-zero (a .im))) (rw (*ℤ-zero (a .re), *ℤ-zero (a .im)))
+
+pub nought-times : (a : Amplitude) → nought ⊗ a ≡ nought
+nought-times a = ⊗-comm nought a ∙ times-nought a
+
+pub plus-nought : (a : Amplitude) → a ⊕ nought ≡ a
+unfolding _⊕_
+plus-nought a = same-amplitude (+ℤ-idr (a .re)) (+ℤ-idr (a .im))
+
+pub nought-plus : (a : Amplitude) → nought ⊕ a ≡ a
+nought-plus a = ⊕-comm nought a ∙ plus-nought a
+
 -- sorts a polynomial of amplitudes
 pub ruleset ring = (⊗-⊕, ⊕-⊗, ⊗-assoc, ⊗-left, ⊗-comm, ⊕-assoc, ⊕-left, ⊕-comm)
 
--- two powers with other controls pass each other
+-- ---- the four doubled matrices
+
+-- two powers, on two targets, in either order
 pub mix-swap : (p q : ℕ) (a b c d : Amplitude) → mix q (mix p a b) (mix p c d) ≡ mix p (mix q a c) (mix q b d)
 unfolding mix
 mix-swap p q a b c d = simp ring
@@ -110,7 +135,8 @@ pub mix-two : (a b : Amplitude) → mix 2 a b ≡ b ⊕ b
 unfolding mix diagonal off-diagonal
 mix-two a b = ⊕-comm (diagonal 2 ⊗ a) (off-diagonal 2 ⊗ b) ∙ two-and-nought (off-diagonal 2) (diagonal 2) b a two-is zero-is zero-is zero-is
 
--- 2^m times
+-- ---- 2^m times
+
 pub doubled-⊕ : (m : ℕ) (a b : Amplitude) → doubled m (a ⊕ b) ≡ doubled m a ⊕ doubled m b
 unfolding doubled
 doubled-⊕ zero a b = refl
@@ -144,7 +170,13 @@ unfolding doubled
 cancel zero a b e = e
 cancel (suc m) a b e = cancel m a b (halved (doubled m a) (doubled m b) e)
 
--- linear
+pub doubled-times : (m : ℕ) (k a : Amplitude) → doubled m (k ⊗ a) ≡ k ⊗ doubled m a
+unfolding doubled
+doubled-times zero k a = refl
+doubled-times (suc m) k a = rw (doubled-times m k a) (sym (⊗-⊕ k (doubled m a) (doubled m a)))
+
+-- ---- a matrix is linear
+
 pub mix-times : (p : ℕ) (k a b : Amplitude) → mix p (k ⊗ a) (k ⊗ b) ≡ k ⊗ mix p a b
 unfolding mix
 mix-times p k a b = simp ring

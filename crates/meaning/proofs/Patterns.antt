@@ -1,14 +1,14 @@
 -- The 2^n patterns of n lines: patterns that agree on the lines below n are one, and each is the pattern of exactly one number below 2^n.
 -- Assumes nothing.
-use mathlib.Core.Path.{_≡_, refl, sym, _∙_, ap}
-use mathlib.Core.Bool.{Bool, true, false, not, cond, _&&_, Bool·beq}
+use mathlib.Core.Path.{_≡_, refl, sym, _∙_}
+use mathlib.Core.Bool.{Bool, true, false, cond, Bool·beq}
 use Prim.Native.Nat.{ℕ, zero, suc, _+_, _*_, _/_, _%_, _^_, _<_}
 use native.Mathlib.Omega.{arith}
 use native.Mathlib.Nat.{two-pow-succ}
 use native.Mathlib.Decide.{ℕ-discrete}
 use lib.Dec.{eqb}
 use Rattle.meaning.specs.Pattern.{Pattern, flip, agree, pattern, number}
-use Rattle.meaning.proofs.Flips.{both, eqb-same, eqb-other}
+use Rattle.meaning.proofs.Flips.{both}
 
 -- ---- agreement
 

@@ -1,9 +1,10 @@
--- Laws of runs: linear, compose, pass, inverse.
+-- Laws of runs: a run is linear, powers of one control and target add, gates that pass may change places, and the inverse of a circuit undoes it.
+-- Assumes nothing.
 use mathlib.Core.Path.{_≡_, refl, sym, _∙_, ap, fun-ext}
 use mathlib.Core.Logic.{_≢_}
-use mathlib.Core.Bool.{Bool, true, false, not, cond}
+use mathlib.Core.Bool.{Bool, true, false, cond}
 use mathlib.Core.List.{List, [], _∷_, _++_}
-use Prim.Native.Nat.{ℕ, zero, suc, _+_, _-_, _≤_, _<_, _%_}
+use Prim.Native.Nat.{ℕ, _+_, _-_, _<_, _%_}
 use native.Mathlib.Omega.{arith}
 use Rattle.gates.specs.declared.Gate.{Gate}
 use Rattle.gates.specs.declared.Gate.the-variants.{Not, Powered}
@@ -12,8 +13,8 @@ use Rattle.gates.specs.Inverse.{inverted, inverse}
 use Rattle.meaning.specs.Amplitude.{Amplitude, _⊕_, _⊗_, doubled, mix}
 use Rattle.meaning.specs.Pattern.{Pattern, flip}
 use Rattle.meaning.specs.State.{State, apply, run, powered-gates}
-use Rattle.meaning.proofs.Mixing.{mix-times, mix-sum, mix-swap, mix-mix, mix-zero, mix-two, doubled-⊕, doubled-mix, doubled-add, halved, cancel, below-four}
-use Rattle.meaning.proofs.Flips.{flip-at, flip-other, flip-flip, flip-comm}
+use Rattle.meaning.proofs.Mixing.{mix-times, mix-sum, mix-swap, mix-mix, mix-zero, doubled-mix, doubled-add, cancel}
+use Rattle.meaning.proofs.Flips.{flip-other, flip-flip, flip-comm}
 
 -- 2^m times a state
 abbrev pub scaled : ℕ → State → State
@@ -27,6 +28,9 @@ pub power-small : (b : Bool) (p : ℕ) → p < 4 → power b p < 4
 power-small true p h = h
 power-small false p h = omega arith
 
+-- ---- one gate
+
+-- a powered gate is a power everywhere: power 0, which doubles, where the control is 0
 pub apply-mix : (p c t : ℕ) (ψ : State) (x : Pattern) → apply (Powered p c t) ψ x ≡ mix (power (x c) p) (ψ x) (ψ (flip t x))
 unfolding apply
 apply-mix p c t ψ x = go (x c)
@@ -39,6 +43,8 @@ pub apply-not : (t : ℕ) (ψ : State) (x : Pattern) → apply (Not t) ψ x ≡ 
 unfolding apply
 apply-not t ψ x = refl
 
+-- ---- circuits
+
 pub run-append : (a b : List Gate) (ψ : State) → run (a ++ b) ψ ≡ run b (run a ψ)
 unfolding run
 run-append [] b ψ = refl
@@ -50,7 +56,8 @@ powered-append [] b = omega arith
 powered-append (Not t ∷ a) b = powered-append a b
 powered-append (Powered p c t ∷ a) b = omega (arith, powered-append a b)
 
--- linear
+-- ---- a run is linear
+
 pub apply-scaled : (m : ℕ) (g : Gate) (ψ : State) → apply g (scaled m ψ) ≡ scaled m (apply g ψ)
 apply-scaled m (Not t) ψ = unfold apply in refl
 apply-scaled m (Powered p c t) ψ = fun-ext λ x. simp (apply-mix, doubled-mix)
@@ -79,7 +86,9 @@ unfolding run
 run-sum [] ψ φ = refl
 run-sum (g ∷ gs) ψ φ = rw (apply-sum g ψ φ) (run-sum gs (apply g ψ) (apply g φ))
 
--- compose
+-- ---- two gates
+
+-- two powers of one control and target are their sum modulo 4, doubled
 pub compose : (p q c t : ℕ) → p < 4 → q < 4 → c ≢ t → (ψ : State) → run (Powered p c t ∷ Powered q c t ∷ []) ψ ≡ scaled 1 (run (Powered ((p + q) % 4) c t ∷ []) ψ)
 unfolding run doubled
 compose p q c t h k n ψ = fun-ext λ x. simp (apply-mix, flip-flip, flip-other t c x n) (go x (x c))
@@ -88,7 +97,7 @@ compose p q c t h k n ψ = fun-ext λ x. simp (apply-mix, flip-flip, flip-other 
     go x true = mix-mix p q h k (ψ x) (ψ (flip t x))
     go x false = mix-mix 0 0 (omega arith) (omega arith) (ψ x) (ψ (flip t x))
 
--- pass
+-- gates that pass may change places
 pub pass : (g h : Gate) → Passes g h → (ψ : State) → run (g ∷ h ∷ []) ψ ≡ run (h ∷ g ∷ []) ψ
 unfolding run target slot
 pass (Not t) (Not u) e ψ = fun-ext λ x. unfold apply in ap ψ (flip-comm t u x)
@@ -99,6 +108,8 @@ pass (Powered p c t) (Not u) e ψ = fun-ext λ x. let n : c ≢ u = omega (arith
 pass (Powered p c t) (Powered q d u) e ψ = fun-ext λ x. let n : d ≢ t = omega (arith, e .there) in let m : c ≢ u = omega (arith, e .back) in
     simp (apply-mix, flip-other t d x n, flip-other u c x m, flip-comm u t x)
     (mix-swap (power (x c) p) (power (x d) q) (ψ x) (ψ (flip t x)) (ψ (flip u x)) (ψ (flip t (flip u x))))
+
+-- ---- the inverse
 
 pub powered-inverse : (a : List Gate) → powered-gates (inverse a) ≡ powered-gates a
 unfolding powered-gates inverse inverted

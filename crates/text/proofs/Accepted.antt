@@ -1,29 +1,26 @@
 -- What it is to be accepted: the text is the rendering of its forms, each of them keeps the rules, and the circuit is valid on n lines.
 -- Assumes nothing.
 use mathlib.Core.Path.{_≡_, refl, sym, ap, _∙_, subst}
-use mathlib.Core.Logic.{_≢_}
-use mathlib.Core.Bool.{Bool, true, false, cond, not, _&&_, _||_}
+use mathlib.Core.Bool.{Bool, true, false, _&&_, false≢true}
 use mathlib.Core.List.{List, [], _∷_, _++_, map, append-assoc, append-nil}
-use Prim.Native.Nat.{ℕ, zero, suc, _+_, _≤_, _<_}
+use Prim.Native.Nat.{ℕ, _+_, _≤_, _<_}
 use native.Mathlib.Omega.{arith}
-use native.Mathlib.Decide.{decLt}
 use lib.ListN.{length}
 use lib.Dec.{eqb, leb, ltb}
-use borrow.Author.Tests.{ltb-true, ltb-false, leb-true, leb-false, eqb-true, eqb-false, not-true, not-false, le-leb, eq-eqb, ne-eqb}
+use borrow.Author.Tests.{ltb-true, ltb-false, leb-true, leb-false, eqb-false, not-false, le-leb, ne-eqb}
 use Rattle.gates.specs.declared.Gate.{Gate}
 use Rattle.gates.specs.declared.Gate.the-variants.{Not, Powered}
-use Rattle.gates.specs.Circuit.{Valid, valid-not, valid-powered, AllValid}
+use Rattle.gates.specs.Circuit.{valid-not, valid-powered, AllValid}
 use Rattle.meaning.specs.Pattern.{has, distinct}
 use Rattle.cascades.specs.Expansion.{_⨾_, expansion, Expandable}
 use Rattle.cascades.specs.Cascade.{Controlled, expand-all, Below, AllExpandable}
 use Rattle.meaning.proofs.Flips.{both, neither}
-use Rattle.cascades.proofs.Spare.{valid}
+use Rattle.cascades.proofs.Spare.{by-rules}
 use Rattle.gates.proofs.Reach.{all-valid-append}
 use Rattle.cascades.proofs.Valid.{expansion-fits}
 use Rattle.text.specs.declared.Refusal.{Refusal}
 use Rattle.text.specs.declared.Head.{Head}
-use Rattle.text.specs.declared.Refusal.the-variants.{Malformed, NoSuchLine, Crossed, Unsorted, TooWide, NoSpare, TooMany}
-use Rattle.text.specs.Text.{Form, lines, gate, mct, render, rendered, Proper, AllProper, Short, cascade-text, circuit-text}
+use Rattle.text.specs.Text.{Form, lines, gate, mct, rendered, Proper, AllProper, cascade-text, circuit-text}
 use Rattle.text.specs.Reading.{Line, in-form, unformed, read, cut}
 use Rattle.text.specs.Judging.{Kind, cascade, circuit, Judged, turned-away, accepted, controls, target, gates, belongs, most, any-from, rising, Found, sound, breaks, Rule, rule, first, head-rules, rules, or-else, judge-lines, judge-text, read-all, judge}
 use Rattle.text.proofs.Printed.{read-only, reads, glued, glued-cut, cut-render}
@@ -194,8 +191,8 @@ all-below n [] e = tt
 all-below n (c ∷ cs) e = let u = neither (leb n c) (any-from n cs) e in (leb-false n c (u .0), all-below n cs (u .1))
 
 target-below : (n t : ℕ) (cs : List ℕ) → any-from n (t ∷ cs) ≡ false → (t < n) × Below n cs
-unfolding any-from
-target-below n t cs e = let u = neither (leb n t) (any-from n cs) e in (leb-false n t (u .0), all-below n cs (u .1))
+unfolding Below
+target-below n t cs e = all-below n (t ∷ cs) e
 
 -- strictly rising controls differ
 low-out : (j c : ℕ) (cs : List ℕ) → j < c → rising (c ∷ cs) ≡ true → has j (c ∷ cs) ≡ false
@@ -214,60 +211,19 @@ rising-distinct (c ∷ d ∷ cs) e =
     let u = both (ltb c d) (rising (d ∷ cs)) e in
     rw (low-out c d cs (ltb-true c d (u .0)) (u .1), rising-distinct (d ∷ cs) (u .1))
 
--- and fill that many lines
-rising-fill : (n c : ℕ) (cs : List ℕ) → rising (c ∷ cs) ≡ true → Below n (c ∷ cs) → c + suc (length cs) ≤ n
-unfolding rising Below
-rising-fill n c [] e b = omega (arith, b .0)
-rising-fill n c (d ∷ cs) e b =
-    let u = both (ltb c d) (rising (d ∷ cs)) e in
-    let l = ltb-true c d (u .0) in
-    let h = rising-fill n d cs (u .1) (b .1) in
-    omega arith
-
-abbrev Ahead : ℕ → List ℕ → Type 0
-Ahead a [] = Unit {0}
-Ahead a (c ∷ cs) = a ≤ c
-
-ahead : (c : ℕ) (cs : List ℕ) → rising (c ∷ cs) ≡ true → Ahead (suc c) cs × (rising cs ≡ true)
-unfolding rising
-ahead c [] e = (tt, refl)
-ahead c (d ∷ cs) e = let u = both (ltb c d) (rising (d ∷ cs)) e in (ltb-true c d (u .0), u .1)
-
--- with the target one more
-fill : (n t a : ℕ) (cs : List ℕ) → Ahead a cs → a ≤ t → t < n → rising cs ≡ true → Below n cs → has t cs ≡ false → a + length cs + 1 ≤ n
-unfolding has Below
-fill n t a [] h k l e b o = omega arith
-fill n t a (c ∷ cs) h k l e b o =
-    let u = neither (eqb t c) (has t cs) o in
-    go (decLt c t) (eqb-false t c (u .0)) (λ k′. let q = ahead c cs e in fill n t (suc c) cs (q .0) k′ l (q .1) (b .1) (u .1))
-  where
-    go : Dec (c < t) → (t ≡ c → ⊥) → (suc c ≤ t → suc c + length cs + 1 ≤ n) → a + suc (length cs) + 1 ≤ n
-    go (yes p) d rest = let r = rest p in omega arith
-    go (no p) d rest = let r = rising-fill n c cs e b in let x : t ≢ c = d in omega arith
-
-spare-left : (n k : ℕ) → (leb 3 k && eqb n (k + 1)) ≡ false → k + 1 ≤ n → 3 ≤ k → k + 1 < n
-spare-left n k e h m = let q : eqb n (k + 1) ≡ false = rw (le-leb 3 k m) at e in let d : n ≢ k + 1 = eqb-false n (k + 1) q in omega arith
-
 pub expandable : (n : ℕ) (cs : List ℕ) (t : ℕ) → Good cascade n (mct cs t) → Expandable n cs t × Below n cs
 unfolding controls target
 expandable n cs t g =
     let b = target-below n t cs (g .inside) in
-    let f = fill n t 0 cs (start cs) (omega arith) (b .0) (g .ordered) (b .1) (g .apart) in
-    (valid n cs t (rising-distinct cs (g .ordered)) (g .apart) (b .0) (spare-left n (length cs) (g .spare) (omega arith)), b .1)
-  where
-    start : (ds : List ℕ) → Ahead 0 ds
-    start [] = tt
-    start (d ∷ ds) = omega arith
-
-false-true : false ≡ true → ⊥
-false-true e = let z : _≡_ {A = ℕ} 0 1 = cc in omega arith
+    let k = length cs in
+    (by-rules n cs t (b .0) (b .1) (g .apart) (rising-distinct cs (g .ordered)) (λ m. eqb-false n (k + 1) (rw (le-leb 3 k m) at (g .spare))), b .1)
 
 pub good-valid : (k : Kind) (n : ℕ) (f : Form) → Good k n f → AllValid n (gates n f)
 unfolding gates controls target belongs has Below
-good-valid cascade n (lines m) g = absurd (false-true (g .belonging))
-good-valid circuit n (lines m) g = absurd (false-true (g .belonging))
-good-valid cascade n (gate h) g = absurd (false-true (g .belonging))
-good-valid circuit n (mct cs t) g = absurd (false-true (g .belonging))
+good-valid cascade n (lines m) g = absurd (false≢true (g .belonging))
+good-valid circuit n (lines m) g = absurd (false≢true (g .belonging))
+good-valid cascade n (gate h) g = absurd (false≢true (g .belonging))
+good-valid circuit n (mct cs t) g = absurd (false≢true (g .belonging))
 good-valid cascade n (mct cs t) g = let e = expandable n cs t g in expansion-fits n cs t (e .0) (e .1)
 good-valid circuit n (gate (Not t)) g = (valid-not (target-below n t [] (g .inside) .0), tt)
 good-valid circuit n (gate (Powered p c t)) g =
@@ -310,8 +266,8 @@ record Mcts (n : ℕ) (fs : List Form) : Type 0 where
 mcts-of : (n : ℕ) (fs : List Form) → AllGood cascade n fs → Mcts n fs
 unfolding made gates expand-all AllExpandable belongs _⨾_
 mcts-of n [] g = record { mcts = []; are = refl; make = refl; ready = tt }
-mcts-of n (lines m ∷ fs) g = absurd (false-true (g .0 .belonging))
-mcts-of n (gate h ∷ fs) g = absurd (false-true (g .0 .belonging))
+mcts-of n (lines m ∷ fs) g = absurd (false≢true (g .0 .belonging))
+mcts-of n (gate h ∷ fs) g = absurd (false≢true (g .0 .belonging))
 mcts-of n (mct cs t ∷ fs) g =
     let w = mcts-of n fs (g .1) in
     let e = expandable n cs t (g .0) in
@@ -332,9 +288,9 @@ cascade-of {n} w = let m = mcts-of n (w .forms) (w .good) in
 circuit-is : (n : ℕ) (fs : List Form) → AllGood circuit n fs → fs ≡ map gate (made n fs)
 unfolding made gates belongs
 circuit-is n [] g = refl
-circuit-is n (lines m ∷ fs) g = absurd (false-true (g .0 .belonging))
+circuit-is n (lines m ∷ fs) g = absurd (false≢true (g .0 .belonging))
 circuit-is n (gate h ∷ fs) g = ap (λ (l : List Form). gate h ∷ l) (circuit-is n fs (g .1))
-circuit-is n (mct cs t ∷ fs) g = absurd (false-true (g .0 .belonging))
+circuit-is n (mct cs t ∷ fs) g = absurd (false≢true (g .0 .belonging))
 
 -- the circuit read is the one whose text it is
 pub circuit-of : {n : ℕ} {s : List ℕ} {c : List Gate} → Text circuit n s c → s ≡ circuit-text n c

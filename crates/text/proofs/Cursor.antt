@@ -1,19 +1,12 @@
 -- A text's lines as a place that only moves forward finds them: three laws for the reader's code. Assumes nothing.
-use mathlib.Core.Path.{_≡_, refl, sym, ap, _∙_, subst}
-use mathlib.Core.Logic.{_↔_}
-use mathlib.Core.Bool.{Bool, true, false, cond}
+use mathlib.Core.Path.{_≡_, refl, sym, ap, _∙_}
 use mathlib.Core.List.{List, [], _∷_, _++_}
-use Prim.Native.Nat.{ℕ, zero, suc, _+_}
+use Prim.Native.Nat.{ℕ}
 use native.Mathlib.Omega.{arith}
-use lib.Dec.{eqb}
-use Rattle.text.specs.Text.{Form, render, Proper}
-use Rattle.text.specs.Reading.{Got, got, none, parse, Line, in-form, unformed, read, longer, cut}
+use Rattle.text.specs.Text.{Form}
+use Rattle.text.specs.Reading.{got, none, parse, Line, in-form, unformed, read, cut}
 use Rattle.text.specs.Judging.{read-all}
-use Rattle.text.proofs.Printed.{parse-render, parse-sound, reads, read-only, cut-render, glued, glued-cut}
-
--- a line is in form exactly if it is the rendering of a form
-pub formed-iff : (s : List ℕ) (f : Form) → (read s ≡ in-form f) ↔ ((s ≡ render f) × Proper f)
-formed-iff s f = (λ e. read-only s f e, λ h. ap read (h .0) ∙ reads f (h .1))
+use Rattle.text.proofs.Printed.{parse-render, parse-sound, reads, read-only, cut-render, glued, glued-cut, nil-cons}
 
 -- the place stands before a form
 pub at-form : (s : List ℕ) (f : Form) (r : List ℕ) → parse s ≡ got f r → read-all (cut s) ≡ in-form f ∷ read-all (cut r)
@@ -29,9 +22,6 @@ at-end = refl
 
 got-none : {f : Form} {r : List ℕ} → got f r ≡ none → ⊥
 got-none e = let z : _≡_ {A = ℕ} 0 1 = cc in omega arith
-
-nil-cons : {b : ℕ} {s : List ℕ} → [] ≡ b ∷ s → ⊥
-nil-cons e = let z : _≡_ {A = ℕ} 0 1 = cc in omega arith
 
 glued-nil : glued [] ≡ []
 unfolding glued

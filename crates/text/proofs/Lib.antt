@@ -3,3 +3,4 @@ pub mod Accepted
 pub mod Written
 pub mod Cursor
 pub mod Edges
+pub mod Unambiguous

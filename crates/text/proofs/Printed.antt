@@ -5,20 +5,15 @@ use mathlib.Core.Bool.{Bool, true, false, cond, not, _&&_}
 use mathlib.Core.List.{List, [], _∷_, _++_, append-assoc, append-nil}
 use Prim.Native.Nat.{ℕ, zero, suc, _+_, _-_, _*_, _/_, _%_, _≤_, _<_}
 use native.Mathlib.Omega.{arith}
-use lib.ListN.{length, drop, length-append, length-drop, drop-of-length-le}
+use lib.ListN.{length, length-append}
 use lib.Dec.{eqb, ltb, leb}
-use borrow.Author.Tests.{eq-eqb, ne-eqb, le-leb, lt-leb, le-ltb, lt-ltb, eqb-true, eqb-false, leb-true, ltb-true, ltb-false, not-true}
-use Rattle.gates.specs.declared.Gate.{Gate}
+use borrow.Author.Tests.{ne-eqb, le-leb, le-ltb, lt-ltb, eqb-true, eqb-false, leb-true, ltb-true, ltb-false, not-true}
 use Rattle.gates.specs.declared.Gate.the-variants.{Not, Powered}
+use Rattle.meaning.proofs.Flips.{both}
 use Rattle.text.specs.Text.{Short, Proper, rendered, AllProper, Form, lines, gate, mct, bytes, digits, spaced, one, two, word, render}
-use Rattle.text.specs.Reading.{Got, got, none, bind, orElse, strip, digit, second, num, tail, pair, control, controls, list, many, lines-body, not-body, mct-body, powered-body, parse, Line, in-form, unformed, whole, read, longer, cut}
+use Rattle.text.specs.Reading.{Got, got, none, bind, orElse, strip, digit, second, num, tail, pair, control, controls, list, many, lines-body, not-body, mct-body, powered-body, parse, in-form, unformed, whole, read, longer, cut}
 
 -- ---- booleans and answers
-
-and-both : (x y : Bool) → x && y ≡ true → (x ≡ true) × (y ≡ true)
-and-both true true e = (refl, refl)
-and-both true false e = (refl, e)
-and-both false y e = (e, absurd (mathlib.Core.Bool.false≢true e))
 
 none-got : {A : Type 0} {a : A} {s : List ℕ} → none ≡ got a s → ⊥
 none-got e = let z : _≡_ {A = ℕ} 0 1 = cc in omega arith
@@ -31,20 +26,11 @@ unelse : {A B : Type 0} (g : Got A) (f : A → List ℕ → Got B) (z : Got B) {
 unelse (got a s) f z e = inl (a, s, refl, e)
 unelse none f z e = inr e
 
-abbrev first : Got (ℕ × ℕ) → ℕ
-first (got p s) = p .0
-first none = 0
-
-abbrev last : Got (ℕ × ℕ) → ℕ
-last (got p s) = p .1
-last none = 0
+-- the same answer, and the same bytes after it
+got-is : {A : Type 0} {a b : A} {s t : List ℕ} → got a s ≡ got b t → (a ≡ b) × (s ≡ t)
+got-is e = (cc, cc)
 
 -- ---- words
-
-strip-word : (w s : List ℕ) → strip w (w ++ s) ≡ got tt s
-unfolding strip
-strip-word [] s = refl
-strip-word (a ∷ w) s = rw (eq-eqb a a refl) (strip-word w s)
 
 strip-sound : (w s r : List ℕ) → strip w s ≡ got tt r → s ≡ w ++ r
 unfolding strip
@@ -102,7 +88,7 @@ second-sound a (b ∷ s) n r h k m e = go (digit b) refl e
     go : (t : Bool) → digit b ≡ t → cond t (got ((a - 48) * 10 + (b - 48)) s) (got (a - 48) (b ∷ s)) ≡ got n r → (a ∷ b ∷ s ≡ digits n ++ r) × (n < 100)
     go false d q = one-digit a n (b ∷ s) r h k q
     go true d q =
-        let dd = and-both (leb 48 b) (leb b 57) d in
+        let dd = both (leb 48 b) (leb b 57) d in
         let d0 = leb-true 48 b (dd .0) in
         let d1 = leb-true b 57 (dd .1) in
         let m1 : a ≢ 48 = m in
@@ -124,7 +110,7 @@ num-sound (a ∷ s) n r e = go (digit a) refl (eqb a 48) refl e
         let y : s ≡ r = cc in
         (rw (← x, y, eqb-true a 48 z), omega arith)
     go true d false z q =
-        let dd = and-both (leb 48 a) (leb a 57) d in
+        let dd = both (leb 48 a) (leb a 57) d in
         second-sound a s n r (leb-true 48 a (dd .0)) (leb-true a 57 (dd .1)) (eqb-false a 48 z) q
 
 -- ---- `t)`, `c t)`
@@ -147,6 +133,21 @@ tail-sound s t r e =
         let z : r′ ≡ r = cc in
         (n .0 ∙ ap (λ (l : List ℕ). digits t′ ++ l) (strip-sound (41 ∷ 10 ∷ []) s′ r′ e₂) ∙ rw (y, z, append-assoc (digits t) (41 ∷ 10 ∷ []) r), rw y at (n .1))
 
+-- what comes before a space and the target
+target-sound : {A : Type 0} (g : Got A) {a : A} {t : ℕ} {r : List ℕ} → bind {B = A × ℕ} g (λ b s. bind (strip (32 ∷ []) s) (λ _ s′. bind (tail s′) (λ u s″. got (b, u) s″))) ≡ got (a, t) r → (g ≡ got a (32 ∷ one t ++ r)) × (t < 100)
+target-sound {A} g {a} {t} {r} e =
+    let w = unbind g _ e in
+    let x = unbind (strip (32 ∷ []) (w .1)) _ (w .3) in
+    let u = unbind (tail (x .1)) _ (x .3) in
+    go (w .0) (u .0) (w .1) (x .1) (u .1) (w .2) (x .2) (u .2) (got-is (u .3))
+  where
+    go : (b : A) (u : ℕ) (s s′ s″ : List ℕ) → g ≡ got b s → strip (32 ∷ []) s ≡ got tt s′ → tail s′ ≡ got u s″ → (_≡_ {A = A × ℕ} (b, u) (a, t)) × (s″ ≡ r) → (g ≡ got a (32 ∷ one t ++ r)) × (t < 100)
+    go b u s s′ s″ e₁ e₂ e₃ k =
+        let q = tail-sound s′ u s″ e₃ in
+        let i : b ≡ a = ap (λ (p : A × ℕ). p .0) (k .0) in
+        let j : u ≡ t = ap (λ (p : A × ℕ). p .1) (k .0) in
+        (e₁ ∙ rw (i, strip-sound (32 ∷ []) s s′ e₂, q .0, j, k .1), rw j at (q .1))
+
 pair-two : (c t : ℕ) (r : List ℕ) → c < 100 → t < 100 → pair (two c t ++ r) ≡ got (c, t) r
 unfolding pair two strip
 pair-two c t r h k = rw (append-assoc (digits c) (32 ∷ one t) r, num-digits c 32 (one t ++ r) h refl, tail-one t r k)
@@ -154,22 +155,9 @@ pair-two c t r h k = rw (append-assoc (digits c) (32 ∷ one t) r, num-digits c 
 pair-sound : (s : List ℕ) (c t : ℕ) (r : List ℕ) → pair s ≡ got (c, t) r → (s ≡ two c t ++ r) × (c < 100) × (t < 100)
 unfolding pair two
 pair-sound s c t r e =
-    let w = unbind (num s) _ e in
-    let x = unbind (strip (32 ∷ []) (w .1)) _ (w .3) in
-    let u = unbind (tail (x .1)) _ (x .3) in
-    go (w .0) (u .0) (w .1) (x .1) (u .1) (w .2) (x .2) (u .2) (u .3)
-  where
-    go : (c′ t′ : ℕ) (s′ s″ r′ : List ℕ) → num s ≡ got c′ s′ → strip (32 ∷ []) s′ ≡ got tt s″ → tail s″ ≡ got t′ r′ → _≡_ {A = Got (ℕ × ℕ)} (got (c′, t′) r′) (got (c, t) r) → (s ≡ (digits c ++ 32 ∷ one t) ++ r) × (c < 100) × (t < 100)
-    go c′ t′ s′ s″ r′ e₁ e₂ e₃ e₄ =
-        let n = num-sound s c′ s′ e₁ in
-        let q = tail-sound s″ t′ r′ e₃ in
-        let i : c′ ≡ c = ap first e₄ in
-        let j : t′ ≡ t = ap last e₄ in
-        let z : r′ ≡ r = cc in (
-          n .0 ∙ ap (λ (l : List ℕ). digits c′ ++ l) (strip-sound (32 ∷ []) s′ s″ e₂ ∙ ap (λ (l : List ℕ). 32 ∷ l) (q .0)) ∙ rw (i, j, z, append-assoc (digits c) (32 ∷ one t) r),
-          rw i at (n .1),
-          rw j at (q .1),
-        )
+    let h = target-sound (num s) e in
+    let n = num-sound s c (32 ∷ one t ++ r) (h .0) in
+    (n .0 ∙ sym (append-assoc (digits c) (32 ∷ one t) r), n .1, h .1)
 
 -- ---- controls
 
@@ -192,19 +180,11 @@ control-sound : (s : List ℕ) (c : ℕ) (b : Bool) (r : List ℕ) → control s
 unfolding control
 control-sound s c b r e = let w = unbind (num s) _ e in go (w .0) (w .1) (w .2) (unelse (strip (32 ∷ []) (w .1)) _ _ (w .3))
   where
-    fst : Got (ℕ × Bool) → ℕ
-    fst (got p s) = p .0
-    fst none = 0
-
-    snd : Got (ℕ × Bool) → Bool
-    snd (got p s) = p .1
-    snd none = false
-
     done : (c′ : ℕ) (b′ : Bool) (s′ r′ : List ℕ) → num s ≡ got c′ s′ → strip (cond b′ 32 41 ∷ []) s′ ≡ got tt r′ → _≡_ {A = Got (ℕ × Bool)} (got (c′, b′) r′) (got (c, b) r) → (s ≡ digits c ++ (cond b 32 41) ∷ r) × (c < 100)
     done c′ b′ s′ r′ e₁ e₂ e₃ =
         let n = num-sound s c′ s′ e₁ in
-        let i : c′ ≡ c = ap fst e₃ in
-        let j : b′ ≡ b = ap snd e₃ in
+        let i : c′ ≡ c = ap (λ (p : ℕ × Bool). p .0) (got-is e₃ .0) in
+        let j : b′ ≡ b = ap (λ (p : ℕ × Bool). p .1) (got-is e₃ .0) in
         let z : r′ ≡ r = cc in
         (n .0 ∙ ap (λ (l : List ℕ). digits c′ ++ l) (strip-sound (cond b′ 32 41 ∷ []) s′ r′ e₂) ∙ rw (i, j, z), rw i at (n .1))
 
@@ -299,33 +279,12 @@ many-after : (cs : List ℕ) (t : ℕ) (r : List ℕ) → Short cs → t < 100 �
 unfolding many strip
 many-after cs t r m h = rw (append-assoc (spaced cs) (41 ∷ 32 ∷ one t) r, list-spaced cs (32 ∷ one t ++ r) m, tail-one t r h)
 
-abbrev firsts : Got (List ℕ × ℕ) → List ℕ
-firsts (got p s) = p .0
-firsts none = []
-
-abbrev lasts : Got (List ℕ × ℕ) → ℕ
-lasts (got p s) = p .1
-lasts none = 0
-
 many-sound : (s cs : List ℕ) (t : ℕ) (r : List ℕ) → many s ≡ got (cs, t) r → (s ≡ after cs t ++ r) × Short cs × (t < 100)
 unfolding many
 many-sound s cs t r e =
-    let w = unbind (list s) _ e in
-    let x = unbind (strip (32 ∷ []) (w .1)) _ (w .3) in
-    let u = unbind (tail (x .1)) _ (x .3) in
-    go (w .0) (u .0) (w .1) (x .1) (u .1) (w .2) (x .2) (u .2) (u .3)
-  where
-    go : (cs′ : List ℕ) (t′ : ℕ) (s′ s″ r′ : List ℕ) → list s ≡ got cs′ s′ → strip (32 ∷ []) s′ ≡ got tt s″ → tail s″ ≡ got t′ r′ → _≡_ {A = Got (List ℕ × ℕ)} (got (cs′, t′) r′) (got (cs, t) r) → (s ≡ after cs t ++ r) × Short cs × (t < 100)
-    go cs′ t′ s′ s″ r′ e₁ e₂ e₃ e₄ =
-        let n = list-sound s cs′ s′ e₁ in
-        let q = tail-sound s″ t′ r′ e₃ in
-        let i : cs′ ≡ cs = ap firsts e₄ in
-        let j : t′ ≡ t = ap lasts e₄ in
-        let z : r′ ≡ r = cc in (
-          n .0 ∙ ap (λ (l : List ℕ). spaced cs′ ++ 41 ∷ l) (strip-sound (32 ∷ []) s′ s″ e₂ ∙ ap (λ (l : List ℕ). 32 ∷ l) (q .0)) ∙ rw (i, j, z, append-assoc (spaced cs) (41 ∷ 32 ∷ one t) r),
-          rw i at (n .1),
-          rw j at (q .1),
-        )
+    let h = target-sound (list s) e in
+    let n = list-sound s cs (32 ∷ one t ++ r) (h .0) in
+    (n .0 ∙ sym (append-assoc (spaced cs) (41 ∷ 32 ∷ one t) r), n .1, h .1)
 
 -- what is written is parsed
 pub parse-render : (f : Form) (r : List ℕ) → Proper f → parse (render f ++ r) ≡ got f r
@@ -413,7 +372,7 @@ clean (b ∷ w) = not (eqb b 10) && clean w
 
 ended-word : (w : List ℕ) {l : List ℕ} → clean w ≡ true → Ended l → Ended (w ++ l)
 ended-word [] e h = h
-ended-word (b ∷ w) e h = let p = and-both (not (eqb b 10)) (clean w) e in more (not-true (eqb b 10) (p .0)) (ended-word w (p .1) h)
+ended-word (b ∷ w) e h = let p = both (not (eqb b 10)) (clean w) e in more (not-true (eqb b 10) (p .0)) (ended-word w (p .1) h)
 
 clean-digits : (n : ℕ) → clean (digits n) ≡ true
 unfolding digits
@@ -485,7 +444,7 @@ glued-cut (b ∷ s) = go (glued-cut s) (eqb b 10)
 cons-is : {A : Type 0} {a b : A} {s t : List A} → a ∷ s ≡ b ∷ t → (a ≡ b) × (s ≡ t)
 cons-is e = (cc, cc)
 
-nil-cons : {A : Type 0} {a : A} {s : List A} → [] ≡ a ∷ s → ⊥
+pub nil-cons : {A : Type 0} {a : A} {s : List A} → [] ≡ a ∷ s → ⊥
 nil-cons e = let z : _≡_ {A = ℕ} 0 1 = cc in omega arith
 
 cut-rendered : (f : Form) (fs : List Form) → cut (rendered (f ∷ fs)) ≡ render f ∷ cut (rendered fs)

@@ -1,28 +1,24 @@
 -- The circuit text of a list is accepted, and its gates are the list. Assumes nothing.
-use mathlib.Core.Path.{_≡_, refl, sym, ap, _∙_, subst}
-use mathlib.Core.Logic.{_≢_}
-use mathlib.Core.Bool.{Bool, true, false, cond, not, _&&_, _||_}
+use mathlib.Core.Path.{_≡_, sym}
 use mathlib.Core.List.{List, [], _∷_, _++_, map, append-assoc, append-nil}
-use Prim.Native.Nat.{ℕ, zero, suc, _+_, _≤_, _<_}
+use Prim.Native.Nat.{ℕ, _+_, _≤_}
 use native.Mathlib.Omega.{arith}
 use lib.ListN.{length, length-append}
-use lib.Dec.{eqb, leb, ltb}
 use borrow.Author.Tests.{le-ltb, le-leb, lt-leb, ne-eqb}
 use Rattle.gates.specs.declared.Gate.{Gate}
 use Rattle.gates.specs.declared.Gate.the-variants.{Not, Powered}
 use Rattle.gates.specs.Circuit.{Valid, valid-not, valid-powered, AllValid}
 use Rattle.meaning.specs.Pattern.{has}
 use Rattle.text.specs.declared.Head.{Head}
-use Rattle.text.specs.Text.{Form, lines, gate, mct, rendered, Proper, AllProper, circuit-text}
-use Rattle.text.specs.Reading.{Line, in-form, unformed, read, cut}
-use Rattle.text.specs.Judging.{Kind, cascade, circuit, Judged, turned-away, accepted, controls, target, gates, belongs, most, any-from, rising, Found, sound, breaks, Rule, rule, first, head-rules, rules, or-else, judge-lines, judge-text, read-all, judge}
+use Rattle.text.specs.Text.{lines, gate, Proper, AllProper, circuit-text}
+use Rattle.text.specs.Judging.{circuit, accepted, controls, target, gates, belongs, most, any-from, rising, sound, first, head-rules, rules, or-else, judge-lines, judge-text, judge}
 use Rattle.text.proofs.Accepted.{formed, read-rendered}
 
-gate-proper : (n : ℕ) {g : Gate} → n ≤ 32 → Valid n g → Proper (gate g)
+pub gate-proper : (n : ℕ) {g : Gate} → n ≤ 32 → Valid n g → Proper (gate g)
 gate-proper n h (valid-not k) = omega arith
 gate-proper n h (valid-powered a b c d e) = (omega arith, omega arith, a, b)
 
-gates-proper : (n : ℕ) (r : List Gate) → n ≤ 32 → AllValid n r → AllProper (map gate r)
+pub gates-proper : (n : ℕ) (r : List Gate) → n ≤ 32 → AllValid n r → AllProper (map gate r)
 gates-proper n [] h f = tt
 gates-proper n (g ∷ r) h f = (gate-proper n h (f .0), gates-proper n r h (f .1))
 

@@ -5,27 +5,21 @@ use Rattle.gates.proofs.Codes.{gate-not, gate-powered}
 use Rattle.gates.proofs.decode.Statement.{statement}
 use Rattle.gates.proofs.decode.Tie as tie
 
--- src/lib.rt:33:18
 cast-target : tie.Need-cast-target
 cast-target c = search needs
 
--- src/lib.rt:34:16
 cast-slot : tie.Need-cast-slot
 cast-slot c = search needs
 
--- src/lib.rt:36:9
 returns : tie.Need-returns
 returns c = gate-not (c .before .args .k) (c .if1 .taken)
 
--- src/lib.rt:38:19
 cast-t7 : tie.Need-cast-t7
 cast-t7 c = search needs
 
--- src/lib.rt:38:34
 sub-t8 : tie.Need-sub-t8
 sub-t8 c = search needs
 
--- src/lib.rt:29:1
 returns-2 : tie.Need-returns-2
 returns-2 c = gate-powered (c .before .args .k) _ (omega (arith, c .if1 .left))
 

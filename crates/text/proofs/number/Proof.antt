@@ -1,96 +1,75 @@
+-- `number` gives each refusal's number in document 01's table, one arm after the other. Assumes nothing.
 use Rattle.text.specs.Refusals.{number-of}
 use borrow.Author.Needs.{needs}
 use Rattle.text.proofs.number.Statement.{statement}
 use Rattle.text.proofs.number.Tie as tie
-use Rattle.text.proofs.number.Reads as reads
-use Rattle.text.proofs.number.Lts as lts
 
--- src/lib.rt:34:30
 enum-told : tie.Need-enum-told
 enum-told c = search needs
 
--- src/lib.rt:35:31
 enum-told-2 : tie.Need-enum-told-2
 enum-told-2 c = search needs
 
--- src/lib.rt:36:31
 enum-told-3 : tie.Need-enum-told-3
 enum-told-3 c = search needs
 
--- src/lib.rt:37:32
 enum-told-4 : tie.Need-enum-told-4
 enum-told-4 c = search needs
 
--- src/lib.rt:38:29
 enum-told-5 : tie.Need-enum-told-5
 enum-told-5 c = search needs
 
--- src/lib.rt:39:30
 enum-told-6 : tie.Need-enum-told-6
 enum-told-6 c = search needs
 
--- src/lib.rt:40:29
 enum-told-7 : tie.Need-enum-told-7
 enum-told-7 c = search needs
 
--- src/lib.rt:41:29
 enum-told-8 : tie.Need-enum-told-8
 enum-told-8 c = search needs
 
--- src/lib.rt:42:29
 enum-told-9 : tie.Need-enum-told-9
 enum-told-9 c = search needs
 
--- src/lib.rt:43:33
 enum-told-10 : tie.Need-enum-told-10
 enum-told-10 c = search needs
 
--- src/lib.rt:30:1
 returns : tie.Need-returns
 unfolding number-of
 returns c = rw (c .enum-told .given .1)
 
--- src/lib.rt:30:1
 returns-2 : tie.Need-returns-2
 unfolding number-of
 returns-2 c = rw (c .enum-told2 .given .1)
 
--- src/lib.rt:30:1
 returns-3 : tie.Need-returns-3
 unfolding number-of
 returns-3 c = rw (c .enum-told3 .given .1)
 
--- src/lib.rt:30:1
 returns-4 : tie.Need-returns-4
 unfolding number-of
 returns-4 c = rw (c .enum-told4 .given .1)
 
--- src/lib.rt:30:1
 returns-5 : tie.Need-returns-5
 unfolding number-of
 returns-5 c = rw (c .enum-told5 .given .1)
 
--- src/lib.rt:30:1
 returns-6 : tie.Need-returns-6
 unfolding number-of
 returns-6 c = rw (c .enum-told6 .given .1)
 
--- src/lib.rt:30:1
 returns-7 : tie.Need-returns-7
 unfolding number-of
 returns-7 c = rw (c .enum-told7 .given .1)
 
--- src/lib.rt:30:1
 returns-8 : tie.Need-returns-8
 unfolding number-of
 returns-8 c = rw (c .enum-told8 .given .1)
 
--- src/lib.rt:30:1
 returns-9 : tie.Need-returns-9
 unfolding number-of
 returns-9 c = rw (c .enum-told9 .given .1)
 
--- src/lib.rt:30:1
 returns-10 : tie.Need-returns-10
 unfolding number-of
 returns-10 c = rw (c .enum-told10 .given .1)

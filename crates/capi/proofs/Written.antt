@@ -1,0 +1,126 @@
+-- How many records a job writes: none where its number is 1 or 2, else all. It follows from what the job says of every list of that
+-- length. Assumes nothing.
+use mathlib.Core.Path.{_≡_, refl, sym, ap, subst, _∙_}
+use mathlib.Core.List.{List, [], _∷_, _++_}
+use Prim.Native.Nat.{ℕ, zero, suc, _≤_}
+use native.Mathlib.Nat.{not-suc-le-zero, le-of-suc-le-suc}
+use native.Mathlib.Omega.{arith}
+use lib.ListN.{length, drop, replicate, length-replicate}
+use Rattle.gates.specs.declared.Gate.{Gate}
+use Rattle.gates.specs.declared.Gate.the-variants.{Not}
+use Rattle.gates.specs.Reduced.{Reduced}
+use Rattle.gates.proofs.Theorem.{reduced-unique}
+use Rattle.records.specs.declared.Done.{Done}
+use Rattle.records.specs.Records.{front, finished}
+use Rattle.records.proofs.Lists.{length-front}
+use Rattle.text.specs.declared.Head.{Head}
+use Rattle.text.specs.Judging.{accepted}
+use Rattle.text.proofs.Accepted.{accepted-head, accepted-circuit}
+use Rattle.jobs.specs.Jobs.{Job, takes, Entry, Exit, filled, judged, Says}
+use Rattle.jobs.specs.Demands.{TooLong}
+use Rattle.jobs.specs.Handing.{Hands}
+use Rattle.jobs.proofs.Numbers.{Came, refused, long, succeeded, came, demand-1}
+
+-- ---- by two lists that differ in every record, how many records a front writes
+
+differ : (g : Gate) → g ≡ Not 0 → g ≡ Not 1 → ⊥
+differ g p q = let z : _≡_ {A = ℕ} 0 1 = cc in omega arith
+
+-- it writes none if it leaves both as they are
+unwritten : (f : List Gate) (k room : ℕ) → length f ≡ k → k ≤ room → f ++ drop k (replicate room (Not 0)) ≡ replicate room (Not 0) → f ++ drop k (replicate room (Not 1)) ≡ replicate room (Not 1) → k ≡ 0
+unwritten [] k room h w p q = sym h
+unwritten (g ∷ f) zero room h w p q = absurd (omega (arith, h))
+unwritten (g ∷ f) (suc k) zero h w p q = absurd (not-suc-le-zero w)
+unwritten (g ∷ f) (suc k) (suc room) h w p q = absurd (differ g (cc) (cc))
+
+-- it writes all if it leaves the two equal
+whole : (f : List Gate) (k room : ℕ) → length f ≡ k → k ≤ room → f ++ drop k (replicate room (Not 0)) ≡ f ++ drop k (replicate room (Not 1)) → k ≡ room
+whole [] zero zero h w p = refl
+whole [] zero (suc room) h w p = absurd (differ (Not 0) refl (cc))
+whole [] (suc k) room h w p = absurd (omega (arith, h))
+whole (g ∷ f) zero room h w p = absurd (omega (arith, h))
+whole (g ∷ f) (suc k) zero h w p = absurd (not-suc-le-zero w)
+whole (g ∷ f) (suc k) (suc room) h w p = ap suc (whole f k room (cc) (le-of-suc-le-suc w) (cc))
+
+-- ---- what a job says on success: the list depends on nothing but the length of the list lent
+
+record Success (j : Job) (e : Entry) (x : Exit) : Type 0 where
+  head : Head
+  circuit : List Gate
+  reduced : List Gate
+  accepts : judged (takes j) e ≡ accepted head circuit
+  is-reduced : Reduced (head .lines) circuit reduced
+  list : x .list ≡ filled reduced (e .list)
+
+success : (j : Job) (e : Entry) (x : Exit) → Says j e x → x .number ≡ 0 → Success j e x
+success j e x s z = go (came j e x s)
+  where
+    go : Came j e x → Success j e x
+    go (refused r l q k) = absurd (omega (arith, demand-1 j e x s .refused r l q .2, z))
+    go (long h c r w q d f k) = absurd (omega (arith, demand-1 j e x s .short .1 (unfold TooLong in (w, (h, c, r, q, d, f))), z))
+    go (succeeded h c r q d w n i k a) = record { head = h; circuit = c; reduced = r; accepts = q; is-reduced = d; list = k }
+
+-- entries with the same text, whose lists have the same length
+module _ (j : Job) (s a : List ℕ) (l m : List Gate) (e : length l ≡ length m) (x y : Exit) where
+  abbrev with-list : List Gate → Entry
+  with-list t = record { text = s; list = t; area = a }
+
+  filled-same : (r : List Gate) → filled r l ≡ filled r m
+  unfolding filled
+  filled-same r = rw e
+
+  judged-same : judged (takes j) (with-list l) ≡ judged (takes j) (with-list m)
+  unfolding judged
+  judged-same = rw e
+
+  success-same : Success j (with-list l) x → Success j (with-list m) y → x .list ≡ y .list
+  success-same p q =
+      let v = sym (p .accepts) ∙ judged-same ∙ q .accepts in
+      let w : Reduced (p .head .lines) (p .circuit) (q .reduced) = subst (λ (c : List Gate). Reduced (p .head .lines) c (q .reduced)) (sym (accepted-circuit v)) (subst (λ (h : Head). Reduced (h .lines) (q .circuit) (q .reduced)) (sym (accepted-head v)) (q .is-reduced)) in
+      p .list ∙ ap (λ (r : List Gate). filled r l) (reduced-unique (p .head .lines) (p .is-reduced) w) ∙ filled-same (q .reduced) ∙ sym (q .list)
+
+-- ---- the limit
+
+module _ (j : Job) (s a : List ℕ) (room : ℕ) (d : Done) (a′ : List ℕ) (all : length (d .codes) ≡ 4096) (w : Hands j s room a d a′) where
+  abbrev entry : List Gate → Entry
+  entry l = record { text = s; list = l; area = a }
+
+  abbrev exit : List Gate → Exit
+  exit l = record { number = d .outcome .number; line = d .outcome .line; count = d .outcome .count; list = finished d l; area = a′ }
+
+  says : (t : ℕ) → Says j (entry (replicate room (Not t))) (exit (replicate room (Not t)))
+  says t = w .tells (replicate room (Not t)) (length-replicate room (Not t))
+
+  length-written : length (front (d .codes) (d .gates) (d .limit)) ≡ d .limit
+  length-written = length-front (d .codes) (d .gates) (d .limit) (w .fits .few) (omega (arith, w .fits .there, all))
+
+  -- "Numbers 1 and 2 leave the gate list unchanged"
+  pub limit-none : 1 ≤ d .outcome .number → d .outcome .number ≤ 2 → d .limit ≡ 0
+  limit-none h k = unwritten (front (d .codes) (d .gates) (d .limit)) (d .limit) room length-written (w .fits .within) (left 0) (left 1)
+    where
+      left : (t : ℕ) → finished d (replicate room (Not t)) ≡ replicate room (Not t)
+      left t = demand-1 j (entry (replicate room (Not t))) (exit (replicate room (Not t))) (says t) .early h k
+
+  -- "the others leave `not 0` in every record"
+  limit-late : 3 ≤ d .outcome .number → d .limit ≡ room
+  limit-late h = whole (front (d .codes) (d .gates) (d .limit)) (d .limit) room length-written (w .fits .within) (cleared 0 ∙ sym (cleared 1))
+    where
+      cleared : (t : ℕ) → finished d (replicate room (Not t)) ≡ replicate room (Not 0)
+      cleared t = demand-1 j (entry (replicate room (Not t))) (exit (replicate room (Not t))) (says t) .late h ∙ ap (λ (i : ℕ). replicate i (Not 0)) (length-replicate room (Not t))
+
+  limit-success : d .outcome .number ≡ 0 → d .limit ≡ room
+  limit-success z = whole (front (d .codes) (d .gates) (d .limit)) (d .limit) room length-written (w .fits .within)
+      (success-same j s a (replicate room (Not 0)) (replicate room (Not 1)) (length-replicate room (Not 0) ∙ sym (length-replicate room (Not 1)))
+      (exit (replicate room (Not 0))) (exit (replicate room (Not 1))) (succeeds 0) (succeeds 1))
+    where
+      succeeds : (t : ℕ) → Success j (entry (replicate room (Not t))) (exit (replicate room (Not t)))
+      succeeds t = success j (entry (replicate room (Not t))) (exit (replicate room (Not t))) (says t) z
+
+  pub limit-all : (d .outcome .number ≡ 1 → ⊥) → (d .outcome .number ≡ 2 → ⊥) → d .limit ≡ room
+  limit-all h k = go (d .outcome .number) refl
+    where
+      go : (n : ℕ) → d .outcome .number ≡ n → d .limit ≡ room
+      go zero e = limit-success e
+      go (suc zero) e = absurd (h e)
+      go (suc (suc zero)) e = absurd (k e)
+      go (suc (suc (suc n))) e = limit-late (omega (arith, e))

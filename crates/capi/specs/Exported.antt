@@ -1,0 +1,73 @@
+-- What the C functions promise: those of the jobs, the promise of the job, read through the numbers of gates; and the one that reads a number.
+-- Assumes nothing.
+use mathlib.Core.Path.{_≡_}
+use mathlib.Core.Bool.{cond}
+use mathlib.Core.List.{List, [], _∷_, _++_, map}
+use Prim.Native.Nat.{ℕ, _-_, _≤_}
+use lib.Dec.{eqb, ltb}
+use lib.ListN.{length, getD, take, drop, replicate}
+use Rattle.gates.specs.declared.Gate.{Gate}
+use Rattle.gates.specs.declared.Gate.the-variants.{Not, Powered}
+use Rattle.gates.specs.Code.{code, gate, gates}
+use Rattle.records.specs.declared.Outcome.{Outcome}
+use Rattle.jobs.specs.Jobs.{Job}
+use Rattle.jobs.specs.Handing.{Said}
+
+-- ---- the gate list as numbers
+
+-- the numbers of gates, in order
+abbrev pub codes : List Gate → List ℕ
+codes r = map code r
+
+-- the number of `not 0`
+abbrev pub not-0 : ℕ
+not-0 = 2
+
+-- the records of the list r: "Numbers 1 and 2 leave the gate list unchanged", whatever numbers stand in it; otherwise each is the number of its gate
+unfoldable pub numbers : ℕ → List ℕ → List Gate → List ℕ
+numbers number l r = cond (eqb number 1) l (cond (eqb number 2) l (codes r))
+
+-- three numbers, as number, line and count
+abbrev pub three : ℕ → ℕ → ℕ → List ℕ
+three a b c = a ∷ b ∷ c ∷ []
+
+-- ---- the contract of map, reduce and quote
+
+-- what one promises of the text, the list and the area at entry, and of the outcome, the list and the area at exit: what its job says
+-- where both lists are read as gates
+pub record Tells (j : Job) (s l a : List ℕ) (o l′ a′ : List ℕ) : Type 0 where
+  pub answer : Outcome
+  pub outcome : o ≡ three (answer .number) (answer .line) (answer .count)
+  pub said : Said j s (gates l) a answer (gates l′) a′
+  pub list : l′ ≡ numbers (answer .number) l (gates l′)
+
+-- ---- the contract of the reading of a record
+
+-- a gate as kind, control and target: the kinds 1, 2 and 3 are the powers of v, cn and vp; 4 is a NOT, which has no control
+unfoldable pub gate-parts : Gate → List ℕ
+gate-parts (Not t) = three 4 0 t
+gate-parts (Powered p c t) = three p c t
+
+-- the gate of a record; kind 0, which is none, for a number that no gate on 32 lines has
+unfoldable pub record-parts : ℕ → List ℕ
+record-parts k = cond (ltb k 4224) (gate-parts (gate k)) (three 0 0 0)
+
+-- ---- what the functions beneath write
+
+-- record i: code i of the first `count`, else `not 0`
+abbrev pub record-at : List ℕ → ℕ → ℕ → ℕ
+record-at ks count i = getD (take count ks) i not-0
+
+-- the first `limit` records: the first `count` codes, and `not 0` in every later one
+abbrev pub front : List ℕ → ℕ → ℕ → List ℕ
+front ks count limit = take count ks ++ replicate (limit - count) not-0
+
+-- a list after its first `limit` records are written: the rest is as it was
+abbrev pub stored : List ℕ → ℕ → ℕ → List ℕ → List ℕ
+stored ks count limit l = front ks count limit ++ drop limit l
+
+-- the first `count` codes are there, and `limit` records
+pub record Storable (ks : List ℕ) (count limit room : ℕ) : Type 0 where
+  pub there : count ≤ length ks
+  pub few : count ≤ limit
+  pub within : limit ≤ room

@@ -1,0 +1,106 @@
+// The three jobs as C functions, and one that reads a gate record: gates are numbers, and the outcome is three numbers.
+use gates::Gate;
+use records::Done;
+ghost use mathlib.Core.Path.{_≡_};
+ghost use mathlib.Core.List.{[]};
+ghost use Prim.Native.Nat.{_≤_};
+ghost use lib.ListN.{length};
+ghost use Rattle.records.specs.Records.{Fits};
+ghost use Rattle.jobs.specs.Jobs.{mapping, reducing, quoting};
+ghost use Rattle.capi.specs.Exported.{three, record-at, stored, Storable, Tells, gate-parts, record-parts};
+
+// The record of the gate `not 0`.
+const NOT_0: u16 = 2;
+
+// Record i: code i for i below count, else `not 0`.
+fn code_at(codes: &[u16], count: usize, i: usize) -> u16
+    requires { ⌜ count ≤ length (now codes) ⌝ }
+    ensures { λ r. ⌜ r ≡ record-at (now (codes .entry)) count i ⌝ }
+{
+    if i < count {
+        return codes[i];
+    }
+    NOT_0
+}
+
+// Writes the first `limit` records: `count` codes, then `not 0`.
+fn store_codes(list: &mut [u16], codes: &[u16], count: usize, limit: usize)
+    requires { ⌜ Storable (now codes) count limit (length (now list)) ⌝ }
+    ensures { λ _. ⌜ now (list .exit) ≡ stored (now (codes .entry)) count limit (now (list .entry)) ⌝ }
+{
+    let mut i = 0;
+    while i < limit {
+        list[i] = code_at(codes, count, i);
+        i = i + 1;
+    }
+}
+
+// Writes what a job hands over into the list and the outcome that the caller lends.
+fn hand_over(d: Done, list: &mut [u16], outcome: &mut [u64; 3])
+    requires { ⌜ Fits d (length (now list)) ⌝ }
+    ensures { λ _. ⌜ (now (list .exit) ≡ stored (d .codes) (d .gates) (d .limit) (now (list .entry))) × (now (outcome .exit) ≡ three (d .outcome .number) (d .outcome .line) (d .outcome .count)) ⌝ }
+{
+    let codes = d.codes;
+    store_codes(list, &codes, d.gates, d.limit);
+    let said = d.outcome;
+    *outcome = [said.number as u64, said.line as u64, said.count as u64];
+}
+
+// Maps a cascade text to a circuit text.
+#[no_mangle]
+pub extern "C" fn yilgorza_map(
+    text: &[u8],
+    list: &mut [u16],
+    answer: &mut [u8],
+    outcome: &mut [u64; 3],
+)
+    ensures { λ _. ⌜ Tells mapping (now (text .entry)) (now (list .entry)) (now (answer .entry)) (now (outcome .exit)) (now (list .exit)) (now (answer .exit)) ⌝ }
+{
+    let d = jobs::map_codes(text, list.len(), answer);
+    hand_over(d, list, outcome);
+}
+
+// Reduces a circuit text.
+#[no_mangle]
+pub extern "C" fn yilgorza_reduce(
+    text: &[u8],
+    list: &mut [u16],
+    answer: &mut [u8],
+    outcome: &mut [u64; 3],
+)
+    ensures { λ _. ⌜ Tells reducing (now (text .entry)) (now (list .entry)) (now (answer .entry)) (now (outcome .exit)) (now (list .exit)) (now (answer .exit)) ⌝ }
+{
+    let d = jobs::reduce_codes(text, list.len(), answer);
+    hand_over(d, list, outcome);
+}
+
+// Quotes the gate count of a cascade text.
+#[no_mangle]
+pub extern "C" fn yilgorza_quote(text: &[u8], list: &mut [u16], outcome: &mut [u64; 3])
+    ensures { λ _. ⌜ Tells quoting (now (text .entry)) (now (list .entry)) [] (now (outcome .exit)) (now (list .exit)) [] ⌝ }
+{
+    let d = jobs::quote_codes(text, list.len());
+    hand_over(d, list, outcome);
+}
+
+// A gate as kind, control and target.
+fn gate_parts(g: Gate) -> [u8; 3]
+    ensures { λ r. ⌜ r ≡ gate-parts g ⌝ }
+{
+    match g {
+        Gate::Not(target) => [4, 0, target],
+        Gate::Powered(power, control, target) => [power, control, target],
+    }
+}
+
+// Reads a record of the gate list.
+#[no_mangle]
+pub extern "C" fn yilgorza_gate(code: u16, gate: &mut [u8; 3])
+    ensures { λ _. ⌜ now (gate .exit) ≡ record-parts code ⌝ }
+{
+    if code < 4224 {
+        *gate = gate_parts(gates::decode(code));
+        return;
+    }
+    *gate = [0, 0, 0];
+}

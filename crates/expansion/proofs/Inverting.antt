@@ -1,0 +1,67 @@
+-- The inverse of a circuit, on the numbers of its gates. Assumes nothing.
+use mathlib.Core.Path.{_≡_, refl, sym, ap, _∙_}
+use mathlib.Core.Logic.{_≢_}
+use mathlib.Core.List.{List, map}
+use Prim.Native.Nat.{ℕ, zero, suc, _+_, _*_, _-_, _/_, _%_, _≤_, _<_}
+use native.Mathlib.Omega.{arith}
+use lib.ListN.{length, getD, take, set}
+use lib.Seq.{slice, slice-cons, slice-empty, length-slice, getD-take, getD-drop}
+use Rattle.gates.specs.declared.Gate.{Gate}
+use Rattle.gates.specs.declared.Gate.the-variants.{Powered}
+use Rattle.gates.specs.Circuit.{Valid, valid-not, valid-powered, AllValid, power}
+use Rattle.gates.specs.Inverse.{inverse, inverted}
+use Rattle.gates.specs.Code.{code, gate, gates, Code, AllCodes}
+use Rattle.gates.proofs.Codes.{power-gate, gate-not, gate-powered, code-powered}
+use Rattle.gates.proofs.CodeLists.{code-at, gates-code}
+use Rattle.cascades.specs.Expansion.{_⨾_}
+use Rattle.expansion.specs.Written.{Written}
+use Rattle.expansion.proofs.Writing.{none, one, both}
+
+-- ---- one gate
+
+pub inverted-not : (k : ℕ) → Code 32 k → k / 4 % 33 ≡ 0 → k ≡ code (inverted (gate k))
+unfolding inverted
+inverted-not k w e = sym (w .exact) ∙ ap code (rw (← gate-not k e))
+
+some-power : {n : ℕ} {g : Gate} → Valid n g → 1 ≤ power g
+unfolding power
+some-power (valid-not h) = omega arith
+some-power (valid-powered a b c d e) = a
+
+powered-code : (p c t : ℕ) → 1 ≤ p → p ≤ 3 → code (inverted (Powered p c t)) ≡ (t * 33 + c + 1) * 4 + (4 - p)
+unfolding inverted
+powered-code p c t a b = let e : (4 - p) % 4 ≡ 4 - p = omega arith in rw e (sym (code-powered (4 - p) c t))
+
+pub inverted-powered : (k : ℕ) → Code 32 k → k / 4 % 33 ≢ 0 → k / 4 * 4 + (4 - k % 4) ≡ code (inverted (gate k))
+inverted-powered k w h = go (k / 4 % 33) refl
+  where
+    go : (s : ℕ) → k / 4 % 33 ≡ s → k / 4 * 4 + (4 - k % 4) ≡ code (inverted (gate k))
+    go zero e = absurd (h e)
+    go (suc c) e =
+        let g = gate-powered k c e in
+        let p : 1 ≤ k % 4 = omega (arith, some-power (w .valid), power-gate k h) in
+        let q : (k / 132 * 33 + c + 1) * 4 + (4 - k % 4) ≡ k / 4 * 4 + (4 - k % 4) = omega arith in
+        sym (rw (← g) (powered-code (k % 4) c (k / 132) p (omega arith) ∙ q))
+
+-- ---- a circuit
+
+pub code-in : (n : ℕ) (from to : ℕ) (l : List ℕ) (i : ℕ) → from ≤ i → i < to → to ≤ length l → AllCodes n (slice from to l) → Code n (getD l i 0)
+code-in n from to l i a b h w =
+    let e : from + (i - from) ≡ i = omega arith in
+    let q : getD (slice from to l) (i - from) 0 ≡ getD l i 0 = getD-drop from (take to l) (i - from) 0 ∙ ap (λ (k : ℕ). getD (take to l) k 0) e ∙ getD-take to l i 0 b in
+    rw q at (code-at n (slice from to l) (i - from) 0 (omega (arith, length-slice from to l h)) w)
+
+-- ---- the copy, from the last gate to the first
+
+-- before the gate at i: the gates from i + 1 up to `to` are inverted
+pub invert-start : (l : List ℕ) (to at : ℕ) → Written (inverse (gates (slice to to l))) l at l at
+unfolding inverse
+invert-start l to at = rw (slice-empty to l) (none l at)
+
+pub invert-step : (l m : List ℕ) (i to at next : ℕ) → i < to → to ≤ length l → next < length m → Written (inverse (gates (slice (suc i) to l))) l at m next → Written (inverse (gates (slice i to l))) l at (set m next (code (inverted (gate (getD l i 0))))) (next + 1)
+unfolding inverse _⨾_
+invert-step l m i to at next a b h w = rw (slice-cons i to l 0 a b) (both w (one (inverted (gate (getD l i 0))) m next h))
+
+-- the inverse of what was read is that of the circuit whose numbers stand there
+pub inverse-of : (n : ℕ) (c : List Gate) (x : List ℕ) {l m : List ℕ} {i j : ℕ} → n ≤ 32 → AllValid n c → x ≡ map code c → Written (inverse (gates x)) l i m j → Written (inverse c) l i m j
+inverse-of n c x few v e w = let q : gates x ≡ c = ap (λ (y : List ℕ). gates y) e ∙ gates-code n c few v in rw q at w

@@ -1,0 +1,7 @@
+pub mod Lines
+pub mod Marked
+pub mod Circuits
+pub mod Writing
+pub mod Inverting
+pub mod Halves
+pub mod Few

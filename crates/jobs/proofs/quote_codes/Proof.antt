@@ -1,0 +1,35 @@
+use borrow.Author.Needs.{needs}
+use denote.Ref.{now}
+use Rattle.jobs.specs.Jobs.{takes}
+use Rattle.jobs.proofs.Handed.{count-hands}
+use Rattle.jobs.proofs.quote_codes.Statement.{statement}
+use Rattle.jobs.proofs.quote_codes.Tie as tie
+use Rattle.jobs.proofs.quote_codes.Reads as reads
+use Rattle.jobs.proofs.quote_codes.Lts as lts
+use Rattle.jobs.proofs.count_loaded.Reads as count-loaded-reads
+use Rattle.jobs.proofs.take_cascade.Reads as take-cascade-reads
+
+-- src/lib.rt:149:43
+slice-aggregate-take-cascade : tie.Need-slice-aggregate-take-cascade
+slice-aggregate-take-cascade c = search needs
+
+-- src/lib.rt:149:9
+take-cascade-requires : tie.Need-take-cascade-requires
+take-cascade-requires c κs = search needs
+
+-- src/lib.rt:150:5
+count-loaded-requires : tie.Need-count-loaded-requires
+count-loaded-requires c κs = search needs
+
+-- src/lib.rt:145:1
+returns : tie.Need-returns
+unfolding takes
+returns c =
+    let b = c .before .before .before .before .before .args in
+    let x = c .before .before .take-cascade in
+    rw (c .count-loaded .ensures) (count-hands (now (b .text)) (x .last .1 .1 .0) (b .room) (x .result) (x .kept .1 .1 .0) (x .ensures))
+
+pub quote-codes-spec : {M : Type 1} → statement M
+quote-codes-spec =
+    tie.close
+    (tie.spec slice-aggregate-take-cascade take-cascade-requires count-loaded-requires returns)

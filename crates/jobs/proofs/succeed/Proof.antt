@@ -1,0 +1,14 @@
+use mathlib.Core.Path.{refl}
+use Rattle.jobs.specs.Handing.{succeeded}
+use Rattle.jobs.proofs.succeed.Statement.{statement}
+use Rattle.jobs.proofs.succeed.Tie as tie
+use Rattle.jobs.proofs.succeed.Reads as reads
+use Rattle.jobs.proofs.succeed.Lts as lts
+
+-- src/lib.rt:47:1
+returns : tie.Need-returns
+unfolding succeeded
+returns c = refl
+
+pub succeed-spec : {M : Type 1} → statement M
+succeed-spec = tie.close (tie.spec returns)

@@ -1,0 +1,58 @@
+use borrow.Author.Needs.{needs}
+use mathlib.Core.Path.{sym, ap, _∙_, subst}
+use denote.Ref.{now}
+use Rattle.text.specs.Judging.{Judged, cascade}
+use Rattle.loading.specs.Seen.{seen-verdict}
+use Rattle.loading.specs.Loaded.{LoadsTo}
+use Rattle.jobs.proofs.Handed.{size-broken, size-kept}
+use Rattle.jobs.proofs.take_cascade.Statement.{statement}
+use Rattle.jobs.proofs.take_cascade.Tie as tie
+use Rattle.jobs.proofs.take_cascade.Reads as reads
+use Rattle.jobs.proofs.take_cascade.Lts as lts
+use Rattle.jobs.proofs.size_rules.Reads as size-rules-reads
+use Rattle.loading.proofs.load_cascade.Reads as load-cascade-reads
+
+-- src/lib.rt:117:33
+size-rules-requires : tie.Need-size-rules-requires
+size-rules-requires c κs = search needs
+
+-- src/lib.rt:117:28
+enum-known-r : tie.Need-enum-known-r
+enum-known-r c = search needs
+
+-- src/lib.rt:118:9
+returns : tie.Need-returns
+returns c =
+    let b = c .before .before .before .before .before .before .args in
+    size-broken cascade (now (b .text)) (b .room) (sym (ap seen-verdict (c .before .r .given .1)) ∙ c .before .before .before .size-rules .ensures)
+
+enum-told : tie.Need-enum-told
+enum-told c = search needs
+
+-- src/lib.rt:120:5
+load-cascade-requires : tie.Need-load-cascade-requires
+load-cascade-requires c κs = search needs
+
+-- src/lib.rt:113:1
+same-length : tie.Need-same-length
+same-length c = search needs
+
+-- src/lib.rt:113:1
+returns-2 : tie.Need-returns-2
+returns-2 c =
+    let b = c .before .before .before .before .before .before .before .before .before .args in
+    let x = c .before .before .load-cascade in
+    let e = size-kept cascade (now (b .text)) (b .room) (sym (ap seen-verdict (c .before .before .before .before .enum-told .given .1)) ∙ c .before .before .before .before .before .before .size-rules .ensures) in
+    subst (λ (j : Judged). LoadsTo j (x .last .1 .0) (x .result)) (sym e) (x .ensures)
+
+pub take-cascade-spec : {M : Type 1} → statement M
+take-cascade-spec =
+    tie.close
+    (tie.spec
+    size-rules-requires
+    enum-known-r
+    returns
+    enum-told
+    load-cascade-requires
+    same-length
+    returns-2)

@@ -1,0 +1,79 @@
+-- What the covered part of a job hands over to the thin function above it, which alone sees the lent gate records. Assumes nothing.
+use mathlib.Core.Path.{_≡_}
+use mathlib.Core.Bool.{cond}
+use mathlib.Core.List.{List, _++_}
+use Prim.Native.Nat.{ℕ, _≤_}
+use lib.ListN.{length, take, drop, replicate}
+use lib.Dec.{leb, ltb}
+use Rattle.gates.specs.declared.Gate.{Gate}
+use Rattle.gates.specs.declared.Gate.the-variants.{Not}
+use Rattle.gates.specs.Code.{gates, AllCodes}
+use Rattle.records.specs.declared.Done.{Done}
+use Rattle.records.specs.declared.Outcome.{Outcome}
+use Rattle.records.specs.Records.{finished, Fits}
+use Rattle.text.specs.declared.Refusal.{Refusal}
+use Rattle.text.specs.declared.Refusal.the-variants.{ShortAnswer}
+use Rattle.text.specs.declared.Head.{Head}
+use Rattle.text.specs.Refusals.{number-of}
+use Rattle.text.specs.Text.{circuit-text}
+use Rattle.loading.specs.declared.Loaded.{Loaded}
+use Rattle.loading.specs.declared.Loaded.the-variants as loaded
+use Rattle.jobs.specs.Jobs.{Job, Says}
+
+-- what a job says of its text, list and area at entry, its outcome, and its list and area at exit
+abbrev pub Said : Job → List ℕ → List Gate → List ℕ → Outcome → List Gate → List ℕ → Type 0
+Said j s l a o l′ a′ = Says j (record { text = s; list = l; area = a }) (record { number = o .number; line = o .line; count = o .count; list = l′; area = a′ })
+
+-- what the covered part promises: it is given only the length of the gate list, and the job says it of every list of that length
+pub record Hands (j : Job) (s : List ℕ) (room : ℕ) (a : List ℕ) (d : Done) (a′ : List ℕ) : Type 0 where
+  pub fits : Fits d room
+  pub tells : (l : List Gate) → length l ≡ room → Said j s l a (d .outcome) (finished d l) a′
+
+-- what a job says where it works on a list of 4,096 records of the function's own
+abbrev pub Own : Job → List ℕ → List ℕ → Outcome → List ℕ → Type 0
+Own j s a o a′ = (l : List Gate) × Said j s (replicate 4096 (Not 0)) a o l a′
+
+-- ---- what is handed over
+
+-- a refusal: no gates; 1 and 2 write no record, the others write all
+unfoldable pub refused : Refusal → ℕ → ℕ → List ℕ → Done
+refused r l room codes = record { codes = codes; gates = 0; limit = cond (leb (number-of r) 2) 0 room; outcome = record { number = number-of r; line = l; count = 0 } }
+
+-- success with the first m codes, and this count
+unfoldable pub succeeded : ℕ → ℕ → ℕ → List ℕ → Done
+succeeded m count room codes = record { codes = codes; gates = m; limit = room; outcome = record { number = 0; line = 0; count = count } }
+
+-- the first m codes as a text, where the answer area has room for it
+unfoldable pub text-of : Head → ℕ → List ℕ → List ℕ
+text-of h m codes = circuit-text (h .lines) (gates (take m codes))
+
+unfoldable pub written-done : Head → ℕ → ℕ → List ℕ → List ℕ → Done
+written-done h m room codes a = cond (ltb (length a) (length (text-of h m codes))) (refused ShortAnswer 0 room codes) (succeeded m (length (text-of h m codes)) room codes)
+
+unfoldable pub written-area : Head → ℕ → List ℕ → List ℕ → List ℕ
+written-area h m codes a = cond (ltb (length a) (length (text-of h m codes))) a (text-of h m codes ++ drop (length (text-of h m codes)) a)
+
+-- the first m codes can be written as a text below the head h
+pub record Writable (h : Head) (m : ℕ) (codes : List ℕ) : Type 0 where
+  pub narrow : h .lines ≤ 32
+  pub few : m ≤ 4096
+  pub valid : AllCodes 32 (take m codes)
+
+-- ---- by what the text was loaded as
+
+abbrev pub text-done : Loaded → ℕ → List ℕ → List ℕ → Done
+text-done (loaded.Accepted h m) room codes a = written-done h m room codes a
+text-done (loaded.Refused r l) room codes a = refused r l room codes
+
+abbrev pub text-area : Loaded → List ℕ → List ℕ → List ℕ
+text-area (loaded.Accepted h m) codes a = written-area h m codes a
+text-area (loaded.Refused r l) codes a = a
+
+abbrev pub count-done : Loaded → ℕ → List ℕ → Done
+count-done (loaded.Accepted h m) room codes = succeeded m m room codes
+count-done (loaded.Refused r l) room codes = refused r l room codes
+
+-- what an accepted text was loaded as can be written
+abbrev pub Answerable : Loaded → List ℕ → Type 0
+Answerable (loaded.Accepted h m) codes = Writable h m codes
+Answerable (loaded.Refused r l) codes = Unit {0}

@@ -1,0 +1,118 @@
+-- The rules of a line, as the loader's code tries them on what it kept of the line. Assumes nothing.
+use mathlib.Core.Path.{_≡_, refl, sym, ap, _∙_}
+use mathlib.Core.Logic.{_≢_}
+use mathlib.Core.Bool.{Bool, true, false, not, _&&_, _||_, or-false, or-self}
+use mathlib.Core.List.{List, [], _∷_, _++_}
+use Prim.Native.Nat.{ℕ, _+_, _-_, _≤_, _<_}
+use native.Mathlib.Omega.{arith}
+use lib.ListN.{length, getD, length-append}
+use lib.Dec.{eqb, leb, ltb, leb→le}
+use borrow.Author.Tests.{ltb-false, leb-true, leb-false, lt-ltb, le-ltb, le-leb, lt-leb, eqb-true, eqb-false, eq-eqb, ne-eqb}
+use Rattle.gates.specs.declared.Gate.{Gate}
+use Rattle.gates.specs.declared.Gate.the-variants.{Not, Powered}
+use Rattle.text.specs.declared.Refusal.{Refusal}
+use Rattle.text.specs.declared.Refusal.the-variants.{NoSuchLine, Crossed, Unsorted, TooWide, NoSpare, TooMany}
+use Rattle.text.specs.declared.Head.{Head}
+use Rattle.text.specs.Text.{gate, mct}
+use Rattle.text.specs.Judging.{cascade, circuit, Rule, rule, first, rules, controls, target, gates, belongs, most, any-from, rising}
+use Rattle.meaning.specs.Pattern.{has}
+use Rattle.cascades.specs.Expansion.{expansion, counts}
+use Rattle.cascades.proofs.Counts.{expansion-count}
+use Rattle.cascades.proofs.Every.{at}
+use Rattle.meaning.proofs.Flips.{neither}
+use Rattle.reading.specs.declared.Controls.{Controls}
+use Rattle.reading.specs.Seen.{gathered}
+use Rattle.reading.proofs.Gathered.{count-is, rising-is, largest-is, mark-is}
+use Rattle.loading.specs.Seen.{tried, over}
+
+-- the next gate of a circuit is the 4,097th
+full : (before : ℕ) (c : List Gate) (g : Gate) → length c ≡ before → (ltb 4096 (before + 1) || ltb 4096 (length (c ++ g ∷ []))) ≡ leb 4096 before
+full before c g e =
+    let l : length (c ++ g ∷ []) ≡ before + 1 = length-append c (g ∷ []) ∙ omega (arith, e) in
+    ap (λ (i : ℕ). ltb 4096 (before + 1) || ltb 4096 i) l ∙ or-self (ltb 4096 (before + 1)) ∙ go (leb 4096 before) refl
+  where
+    go : (b : Bool) → leb 4096 before ≡ b → ltb 4096 (before + 1) ≡ b
+    go true h = lt-ltb 4096 (before + 1) (omega (arith, leb-true 4096 before h))
+    go false h = le-ltb 4096 (before + 1) (omega (arith, leb-false 4096 before h))
+
+pub not-rules : (h : Head) (t before : ℕ) (c : List Gate) → length c ≡ before → tried (leb (h .lines) t) false true false false (leb 4096 before) ≡ first (rules circuit h before c (gate (Not t)))
+unfolding first rules belongs controls target gates any-from has rising most
+not-rules h t before c e = rw (full before c (Not t) e, or-false (leb (h .lines) t))
+
+pub powered-rules : (h : Head) (p d t before : ℕ) (c : List Gate) → length c ≡ before → tried (leb (h .lines) t || leb (h .lines) d) (eqb t d) true false false (leb 4096 before) ≡ first (rules circuit h before c (gate (Powered p d t)))
+unfolding first rules belongs controls target gates any-from has rising most
+powered-rules h p d t before c e = rw (full before c (Powered p d t) e, or-false (leb (h .lines) d), or-false (eqb t d))
+
+-- ---- an mct gate
+
+-- a test counts only where those before it are not met
+after : (r : Refusal) (b : Bool) (rs qs : List Rule) → (b ≡ false → first rs ≡ first qs) → first (rule r b ∷ rs) ≡ first (rule r b ∷ qs)
+unfolding first
+after r true rs qs h = refl
+after r false rs qs h = h refl
+
+-- for at most 15 controls the table has the expansion's count
+over-is : (n before : ℕ) (c : List Gate) (cs : List ℕ) (t : ℕ) → ltb 15 (length cs) ≡ false → over before (length c) (length cs) ≡ (ltb 256 (before + 1) || ltb 4096 (length (c ++ expansion n cs t)))
+unfolding over
+over-is n before c cs t w =
+    let k = ltb-false 15 (length cs) w in
+    let e : length (c ++ expansion n cs t) ≡ length c + getD counts (length cs) 0 = length-append c (expansion n cs t) ∙ ap (λ (i : ℕ). length c + i) (expansion-count n cs t k) in
+    rw (le-leb (length cs) 15 k, e)
+
+pub mct-rules : (h : Head) (cs : List ℕ) (t before : ℕ) (c : List Gate) {outside crossed : Bool} → outside ≡ any-from (h .lines) (t ∷ cs) → (outside ≡ false → crossed ≡ has t cs)
+    → tried outside crossed (rising cs) (ltb 15 (length cs)) (leb 3 (length cs) && eqb (h .lines) (length cs + 1)) (over before (length c) (length cs)) ≡ first (rules cascade h before c (mct cs t))
+unfolding rules belongs controls target gates most
+mct-rules h cs t before c {outside} {crossed} o x =
+    after NoSuchLine outside _ _ (λ p. ap (λ (b : Bool). first (rule Crossed b ∷ later (over before (length c) (length cs)))) (x p) ∙ after Crossed (has t cs) _ _ (λ _. unsorted))
+    ∙ ap (λ (b : Bool). first (rule NoSuchLine b ∷ rule Crossed (has t cs) ∷ later (ltb 256 (before + 1) || ltb 4096 (length (c ++ expansion (h .lines) cs t))))) o
+    ∙ unfold first in refl
+  where
+    later : Bool → List Rule
+    later many = rule Unsorted (not (rising cs)) ∷ rule TooWide (ltb 15 (length cs)) ∷ rule NoSpare (leb 3 (length cs) && eqb (h .lines) (length cs + 1)) ∷ rule TooMany many ∷ []
+
+    unsorted : first (later (over before (length c) (length cs))) ≡ first (later (ltb 256 (before + 1) || ltb 4096 (length (c ++ expansion (h .lines) cs t))))
+    unsorted = after Unsorted (not (rising cs)) _ _ (λ _. after TooWide (ltb 15 (length cs)) _ _ (λ w.
+        ap (λ (b : Bool). first (rule NoSpare (leb 3 (length cs) && eqb (h .lines) (length cs + 1)) ∷ rule TooMany b ∷ [])) (over-is (h .lines) before c cs t w)))
+
+-- the tests on what was gathered of the controls
+pub mct-tried : (h : Head) (cs : List ℕ) (t before total : ℕ) (c : List Gate) (a : Controls) {outside crossed spareless many : Bool} → 1 ≤ h .lines → h .lines ≤ 32 → a ≡ gathered cs → length c ≡ total
+    → outside ≡ (leb (h .lines) t || leb (h .lines) (a .largest)) → crossed ≡ getD (a .marks) t false → spareless ≡ (leb 3 (a .count) && eqb (h .lines) (a .count + 1)) → many ≡ over before total (a .count)
+    → tried outside crossed (a .rising) (ltb 15 (a .count)) spareless many ≡ first (rules cascade h before c (mct cs t))
+mct-tried h cs t before total c a {outside} {crossed} low high q l o x p m =
+    rw (p, m, ap (λ (b : Controls). b .count) q ∙ count-is cs, ap (λ (b : Controls). b .rising) q ∙ rising-is cs, ← l) (mct-rules h cs t before c outside-is crossed-is)
+  where
+    outside-is : outside ≡ any-from (h .lines) (t ∷ cs)
+    outside-is = o ∙ ap (λ (b : Controls). leb (h .lines) t || leb (h .lines) (b .largest)) q ∙ ap (λ (b : Bool). leb (h .lines) t || b) (sym (largest-is (h .lines) cs low)) ∙ unfold any-from in refl
+
+    crossed-is : outside ≡ false → crossed ≡ has t cs
+    crossed-is z =
+        let k = leb-false (h .lines) t (neither (leb (h .lines) t) (leb (h .lines) (a .largest)) (sym o ∙ z) .0) in
+        x ∙ ap (λ (b : Controls). getD (b .marks) t false) q ∙ mark-is cs t (omega (arith, k, high))
+
+-- ---- the tests, as the code makes them
+
+pub spare-few : (n k : ℕ) → k < 3 → false ≡ (leb 3 k && eqb n (k + 1))
+spare-few n k h = rw (lt-leb 3 k h)
+
+pub spare-test : (n k : ℕ) → 3 ≤ k → 1 ≤ n → eqb k (n - 1) ≡ (leb 3 k && eqb n (k + 1))
+spare-test n k h l = rw (le-leb 3 k h) (go (eqb k (n - 1)) refl)
+  where
+    go : (b : Bool) → eqb k (n - 1) ≡ b → b ≡ eqb n (k + 1)
+    go true q = let e = eqb-true k (n - 1) q in sym (eq-eqb n (k + 1) (omega (arith, e, l)))
+    go false q = let d : k ≢ n - 1 = eqb-false k (n - 1) q in sym (ne-eqb n (k + 1) (λ r. d (omega (arith, r, l))))
+
+pub over-full : (before total k : ℕ) → 256 ≤ before → true ≡ over before total k
+unfolding over
+over-full before total k h = rw (lt-ltb 256 (before + 1) (omega arith))
+
+pub over-wide : (before total k : ℕ) → before < 256 → 15 < k → false ≡ over before total k
+unfolding over
+over-wide before total k h l = rw (le-ltb 256 (before + 1) (omega arith), lt-leb k 15 l)
+
+pub over-table : (before total k : ℕ) → before < 256 → k ≤ 15 → ltb 4096 (total + getD counts k 0) ≡ over before total k
+unfolding over
+over-table before total k h l = rw (le-ltb 256 (before + 1) (omega arith), le-leb k 15 l)
+
+-- no entry of the table is large
+pub few-gates : (k : ℕ) → k ≤ 15 → getD counts k 0 ≤ 372
+few-gates k h = leb→le (getD counts k 0) 372 (at (λ i x. leb x 372) counts tt k (omega arith))

@@ -1,0 +1,42 @@
+-- `loading::gate_rules` meets its contract. Assumes nothing.
+use borrow.Author.Needs.{needs}
+use Rattle.loading.proofs.Rules.{not-rules, powered-rules}
+use Rattle.loading.proofs.gate_rules.Statement.{statement}
+use Rattle.loading.proofs.gate_rules.Tie as tie
+
+enum-known-g : tie.Need-enum-known-g
+enum-known-g c = search needs
+
+try-rules-requires : tie.Need-try-rules-requires
+try-rules-requires c κs = search needs
+
+enum-known-g-2 : tie.Need-enum-known-g-2
+enum-known-g-2 c = search needs
+
+either-requires : tie.Need-either-requires
+either-requires c κs = search needs
+
+try-rules-requires-2 : tie.Need-try-rules-requires-2
+try-rules-requires-2 c κs = search needs
+
+returns : tie.Need-returns
+returns c = λ l e.
+    let a = c .before .before .before .before .args in
+    rw (c .try-rules .ensures, c .before .before .g .given .1) (not-rules (a .head) _ (a .before) l e)
+
+returns-2 : tie.Need-returns-2
+returns-2 c = λ l e.
+    let a = c .before .before .before .before .before .args in
+    rw (c .try-rules2 .ensures, c .before .before .before .g2 .given .1, c .before .either .ensures) (powered-rules (a .head) _ _ _ (a .before) l e)
+
+pub gate-rules-spec : {M : Type 1} → statement M
+gate-rules-spec =
+    tie.close
+    (tie.spec
+    enum-known-g
+    try-rules-requires
+    enum-known-g-2
+    either-requires
+    try-rules-requires-2
+    returns
+    returns-2)

@@ -1,0 +1,24 @@
+-- `loading::too_many` meets its contract. Assumes nothing.
+use borrow.Author.Needs.{needs}
+use native.Mathlib.Omega.{arith}
+use Rattle.loading.proofs.Rules.{over-full, over-wide, over-table, few-gates}
+use Rattle.loading.proofs.too_many.Statement.{statement}
+use Rattle.loading.proofs.too_many.Tie as tie
+
+returns : tie.Need-returns
+returns c = over-full (c .before .args .before) (c .before .args .total) (c .before .args .k) (c .if1 .taken)
+
+returns-2 : tie.Need-returns-2
+returns-2 c = over-wide (c .before .before .args .before) (c .before .before .args .total) (c .before .before .args .k) (omega (arith, c .before .if1 .left)) (c .if2 .taken)
+
+count-requires : tie.Need-count-requires
+count-requires c κs = search needs
+
+add-result : tie.Need-add-result
+add-result c = record { fits = omega (arith, few-gates (c .before .before .before .args .k) (omega (arith, c .before .if2 .left)), c .count .ensures, c .before .before .before .pre) }
+
+returns-3 : tie.Need-returns-3
+returns-3 c = let a = c .before .before .before .args in rw (c .count .ensures) (over-table (a .before) (a .total) (a .k) (omega (arith, c .before .before .if1 .left)) (omega (arith, c .before .if2 .left)))
+
+pub too-many-spec : {M : Type 1} → statement M
+too-many-spec = tie.close (tie.spec returns returns-2 count-requires add-result returns-3)

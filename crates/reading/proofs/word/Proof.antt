@@ -1,0 +1,92 @@
+-- `reading::word` meets its contract. Assumes nothing.
+use borrow.Author.Needs.{needs}
+use mathlib.Core.Path.{_≡_, sym, _∙_}
+use Prim.Native.Nat.{_+_, _-_, _≤_}
+use native.Mathlib.Omega.{arith}
+use native.Mathlib.Nat.{add-zero}
+use lib.ListN.{length, drop}
+use Rattle.text.specs.Reading.{strip}
+use Rattle.reading.proofs.Places.{strip-end, strip-other, strip-same, strip-done}
+use Rattle.reading.proofs.word.Statement.{statement}
+use Rattle.reading.proofs.word.Tie as tie
+
+abbrev Inv-loop : tie.InvT-loop
+Inv-loop s at w k₀ k = (k ≤ length w) × (at + k ≤ length s) × (strip w (drop at s) ≡ strip (drop k w) (drop (at + k) s))
+
+abbrev μ-loop : tie.MeasureT-loop
+μ-loop s at w k₀ k = length w - k
+
+loop-holds : tie.Need-loop-holds Inv-loop μ-loop
+loop-holds c = (omega arith, omega arith, rw add-zero)
+
+sub-if1 : tie.Need-sub-if1 Inv-loop μ-loop
+sub-if1 c = search needs
+
+returns : tie.Need-returns Inv-loop μ-loop
+returns c =
+    let l = c .before .before in
+    let a = l .before .args in
+    let t = a .s .now in
+    let w = a .w .now in
+    (sym (l .loop .inv .2 ∙ strip-end t w (a .at) (l .loop .k) (omega arith) (omega arith)), tt)
+
+add-if2 : tie.Need-add-if2 Inv-loop μ-loop
+add-if2 c = search needs
+
+shared-slice-read-if2 : tie.Need-shared-slice-read-if2 Inv-loop μ-loop
+shared-slice-read-if2 c = search needs
+
+shared-slice-read-if2-2 : tie.Need-shared-slice-read-if2-2 Inv-loop μ-loop
+shared-slice-read-if2-2 c = search needs
+
+returns-2 : tie.Need-returns-2 Inv-loop μ-loop
+returns-2 c =
+    let l = c .before .before .before .before .before in
+    let a = l .before .args in
+    let t = a .s .now in
+    let w = a .w .now in
+    (sym (l .loop .inv .2 ∙ strip-other t w (a .at) (l .loop .k) (omega arith) (omega arith) (c .if2 .taken)), tt)
+
+add-k : tie.Need-add-k Inv-loop μ-loop
+add-k c = search needs
+
+loop-less : tie.Need-loop-less Inv-loop μ-loop
+loop-less c = search needs
+
+loop-again : tie.Need-loop-again Inv-loop μ-loop
+loop-again c =
+    let l = c .before .before .before .before .before in
+    let a = l .before .args in
+    let t = a .s .now in
+    let w = a .w .now in
+    (omega arith, omega arith, l .loop .inv .2 ∙ strip-same t w (a .at) (l .loop .k) (omega arith) (omega arith) (c .if2 .left))
+
+add-t12 : tie.Need-add-t12 Inv-loop μ-loop
+add-t12 c = search needs
+
+returns-3 : tie.Need-returns-3 Inv-loop μ-loop
+returns-3 c =
+    let l = c .before in
+    let a = l .before .args in
+    let t = a .s .now in
+    let w = a .w .now in
+    (sym (l .loop .inv .2 ∙ strip-done t w (a .at) (l .loop .k) (omega arith)), (omega arith, omega arith))
+
+pub word-spec : {M : Type 1} → statement M
+word-spec =
+    tie.close
+    (tie.spec
+    Inv-loop
+    μ-loop
+    loop-holds
+    sub-if1
+    returns
+    add-if2
+    shared-slice-read-if2
+    shared-slice-read-if2-2
+    returns-2
+    add-k
+    loop-less
+    loop-again
+    add-t12
+    returns-3)

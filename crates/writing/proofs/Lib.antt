@@ -1,0 +1,4 @@
+pub mod Bytes
+pub mod Numbers
+pub mod Lines
+pub mod Examples

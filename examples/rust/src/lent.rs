@@ -1,0 +1,56 @@
+//! The jobs on memory that the caller lends: a list of at least 4,096 records, and
+//! an answer area. A record is a gate as a number; [`gate`] reads it.
+
+use crate::ffi;
+use crate::{Gate, Number, Refusal};
+
+/// Maps a cascade text; the bytes written.
+pub fn map(text: &[u8], list: &mut [u16], answer: &mut [u8]) -> Result<usize, Refusal> {
+    result(ffi::writing(ffi::yilgorza_map, text, list, answer))
+}
+
+/// Reduces a circuit text; the bytes written.
+pub fn reduce(text: &[u8], list: &mut [u16], answer: &mut [u8]) -> Result<usize, Refusal> {
+    result(ffi::writing(ffi::yilgorza_reduce, text, list, answer))
+}
+
+/// Quotes a cascade text; the gates counted, which are the first records.
+pub fn quote(text: &[u8], list: &mut [u16]) -> Result<usize, Refusal> {
+    result(ffi::quote(text, list))
+}
+
+/// The gate of a record, if it is one.
+pub fn gate(record: u16) -> Option<Gate> {
+    let [kind, control, target] = ffi::gate(record);
+    match kind {
+        1 => Some(Gate::V { control, target }),
+        2 => Some(Gate::Cn { control, target }),
+        3 => Some(Gate::Vp { control, target }),
+        4 => Some(Gate::Not { target }),
+        _ => None,
+    }
+}
+
+/// The numbers in order, from 1.
+const NUMBERS: [Number; 10] = [
+    Number::Overlong,
+    Number::ShortList,
+    Number::Malformed,
+    Number::NoSuchLine,
+    Number::Crossed,
+    Number::Unsorted,
+    Number::TooWide,
+    Number::NoSpare,
+    Number::TooMany,
+    Number::ShortAnswer,
+];
+
+fn result([number, line, count]: [u64; 3]) -> Result<usize, Refusal> {
+    match number {
+        0 => Ok(count as usize),
+        _ => Err(Refusal {
+            number: NUMBERS[number as usize - 1],
+            line,
+        }),
+    }
+}

@@ -1,0 +1,105 @@
+//! Maps a cascade of multiple-control Toffoli gates to a list of NCV gates,
+//! reduces such a list, and quotes its gate count.
+//!
+//! ```
+//! let mapped = yilgorza::map(b"(lines 2)\n(mct (0) 1)\n").unwrap();
+//! assert_eq!(mapped.text, b"(lines 2)\n(cn 0 1)\n");
+//! assert_eq!(mapped.gates, [yilgorza::Gate::Cn { control: 0, target: 1 }]);
+//! ```
+//!
+//! [`map`], [`reduce`] and [`quote`] bring the memory that the C functions of
+//! `include/yilgorza.h` are lent; [`lent`] has them on memory of the caller's.
+
+mod ffi;
+pub mod lent;
+
+use std::fmt;
+
+/// The records of a gate list, and the bytes of an answer area that has room for
+/// every answer.
+pub const LIST_RECORDS: usize = 4096;
+pub const ANSWER_BYTES: usize = 45067;
+
+/// A gate of a circuit.
+#[derive(Clone, Copy, Debug, PartialEq, Eq, Hash)]
+pub enum Gate {
+    Not { target: u8 },
+    V { control: u8, target: u8 },
+    Cn { control: u8, target: u8 },
+    Vp { control: u8, target: u8 },
+}
+
+/// The ten numbers of a refusal.
+#[derive(Clone, Copy, Debug, PartialEq, Eq, Hash)]
+pub enum Number {
+    Overlong = 1,
+    ShortList = 2,
+    Malformed = 3,
+    NoSuchLine = 4,
+    Crossed = 5,
+    Unsorted = 6,
+    TooWide = 7,
+    NoSpare = 8,
+    TooMany = 9,
+    ShortAnswer = 10,
+}
+
+/// Why a text is turned away, and its line, counted from 1; 0 where the refusal
+/// is not about a line.
+#[derive(Clone, Copy, Debug, PartialEq, Eq, Hash)]
+pub struct Refusal {
+    pub number: Number,
+    pub line: u64,
+}
+
+impl fmt::Display for Refusal {
+    fn fmt(&self, f: &mut fmt::Formatter<'_>) -> fmt::Result {
+        write!(f, "(turned-away {} {})", self.number as u64, self.line)
+    }
+}
+
+impl std::error::Error for Refusal {}
+
+/// The reduced list of a text, and its circuit text.
+#[derive(Clone, Debug, PartialEq, Eq)]
+pub struct Circuit {
+    pub text: Vec<u8>,
+    pub gates: Vec<Gate>,
+}
+
+/// Maps a cascade text to a circuit.
+pub fn map(text: &[u8]) -> Result<Circuit, Refusal> {
+    circuit(lent::map, text)
+}
+
+/// Reduces a circuit text.
+pub fn reduce(text: &[u8]) -> Result<Circuit, Refusal> {
+    circuit(lent::reduce, text)
+}
+
+/// The reduced list of a cascade text; its length is the quote.
+pub fn quote(text: &[u8]) -> Result<Vec<Gate>, Refusal> {
+    let mut list = vec![0; LIST_RECORDS];
+    let count = lent::quote(text, &mut list)?;
+    Ok(gates(&list[..count]))
+}
+
+type Writing = fn(&[u8], &mut [u16], &mut [u8]) -> Result<usize, Refusal>;
+
+fn circuit(job: Writing, text: &[u8]) -> Result<Circuit, Refusal> {
+    let mut list = vec![0; LIST_RECORDS];
+    let mut answer = vec![0; ANSWER_BYTES];
+    let count = job(text, &mut list, &mut answer)?;
+    answer.truncate(count);
+    // Line 1 is no gate, and each later line is one.
+    let lines = answer.iter().filter(|byte| **byte == b'\n').count();
+    Ok(Circuit {
+        gates: gates(&list[..lines - 1]),
+        text: answer,
+    })
+}
+
+fn gates(records: &[u16]) -> Vec<Gate> {
+    let gate = |record: &u16| lent::gate(*record).expect("a list given holds gates");
+    records.iter().map(gate).collect()
+}

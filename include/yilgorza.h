@@ -1,0 +1,116 @@
+/* Yilgorza for C: maps a cascade of multiple-control Toffoli gates to a list of
+   NCV gates, reduces such a list, and quotes its gate count.
+
+   The functions are in the archive target/staticlib/libcapi.a, which
+   `rt staticlib capi` proves and writes, for x86-64. It needs nothing else but
+   memcpy and memset. Each function is proved to keep what is said of it here, on
+   every input (crates/capi/specs/Exported.antt has the contracts).
+
+   Nothing is kept between calls, and nothing is allocated: all memory is lent by
+   the caller, and a call takes less than 64 KiB of stack. Calls may run at the
+   same time on areas of their own. */
+
+#ifndef YILGORZA_H
+#define YILGORZA_H
+
+#include <stddef.h>
+#include <stdint.h>
+
+#ifdef __cplusplus
+extern "C" {
+#endif
+
+/* Limits. A longer text, or a shorter list, is refused. An area of
+   YILGORZA_ANSWER_BYTES has room for every answer; a shorter one is enough for a
+   shorter answer. */
+#define YILGORZA_TEXT_BYTES 60000
+#define YILGORZA_LIST_RECORDS 4096
+#define YILGORZA_ANSWER_BYTES 45067
+
+/* The places of the outcome, an area of three numbers. */
+enum {
+    YILGORZA_NUMBER = 0, /* 0, or the number of the refusal */
+    YILGORZA_LINE = 1,   /* the line of the text that is refused, counted from 1;
+                            0 on success and with the numbers 1, 2 and 10 */
+    YILGORZA_COUNT = 2   /* on success the bytes written by map and reduce, and
+                            the gates counted by quote; else 0 */
+};
+
+/* The ten numbers of a refusal. Number 1 is tried first, then 2. Then the lines of
+   the text are taken in order, and each is tried against 3 to 9 in that order; the
+   first line that fails is returned. Then comes 10. */
+enum {
+    YILGORZA_SUCCESS = 0,
+    YILGORZA_OVERLONG = 1,     /* the text has more than 60,000 bytes */
+    YILGORZA_SHORT_LIST = 2,   /* the list has fewer than 4,096 records */
+    YILGORZA_MALFORMED = 3,    /* a line is not in form, or the text is empty */
+    YILGORZA_NO_SUCH_LINE = 4, /* a number is n or more; in line 1, n is not in 1
+                                  to 32 */
+    YILGORZA_CROSSED = 5,      /* a control equals the target */
+    YILGORZA_UNSORTED = 6,     /* the controls do not strictly rise */
+    YILGORZA_TOO_WIDE = 7,     /* more than 15 controls */
+    YILGORZA_NO_SPARE = 8,     /* three or more controls, and n = k + 1 */
+    YILGORZA_TOO_MANY = 9,     /* the 257th mct, an expansion past 4,096 gates with
+                                  this line, or the 4,097th gate of a circuit */
+    YILGORZA_SHORT_ANSWER = 10 /* the answer text is longer than its area */
+};
+
+/* A record of the list is a gate as a number:
+
+       (target * 33 + slot) * 4 + power
+
+   A NOT has slot 0 and power 2. Any other gate has slot control + 1, and power 1
+   (v), 2 (cn) or 3 (vp). So the order of the numbers is the order of the gates:
+   by target, then control, a NOT before control 0, then power. yilgorza_gate
+   reads a record. This is the record of `not 0`. */
+#define YILGORZA_NOT_0 2
+
+/* The three jobs. Each takes a text of text_len bytes, a list of list_len records
+   and an outcome of three numbers, and map and reduce an answer area of
+   answer_len bytes. No pointer is null, each has its type's alignment, and none of
+   the areas that are written overlaps another area. Any bytes and any lengths may
+   be passed.
+
+   On success the list holds first the reduced list, gate by gate, and `not 0` in
+   every later record; the answer area holds that list as a circuit text at its
+   front, its other bytes unchanged. The gates of map and reduce are as many as the
+   answer text has lines, without line 1, and those of quote as many as it counts.
+
+   A refusal leaves the answer area unchanged. Numbers 1 and 2 leave the list
+   unchanged, the others leave `not 0` in every record. */
+
+/* Maps a cascade text to a circuit text. */
+void yilgorza_map(const uint8_t *text, size_t text_len, uint16_t *list,
+                  size_t list_len, uint8_t *answer, size_t answer_len,
+                  uint64_t *outcome);
+
+/* Reduces a circuit text. */
+void yilgorza_reduce(const uint8_t *text, size_t text_len, uint16_t *list,
+                     size_t list_len, uint8_t *answer, size_t answer_len,
+                     uint64_t *outcome);
+
+/* Quotes the gate count of a cascade text. */
+void yilgorza_quote(const uint8_t *text, size_t text_len, uint16_t *list,
+                    size_t list_len, uint64_t *outcome);
+
+/* Reads a record into an area of three bytes: kind, control and target. A NOT has
+   control 0. The kind is 0, with control and target 0, for a number of 4,224 or
+   more: no gate on 32 lines has it. */
+void yilgorza_gate(uint16_t record, uint8_t *gate);
+
+/* The places of a gate that was read, and the kinds. */
+enum { YILGORZA_KIND = 0, YILGORZA_CONTROL = 1, YILGORZA_TARGET = 2 };
+
+enum {
+    YILGORZA_NO_GATE = 0,
+    YILGORZA_V = 1,
+    YILGORZA_CN = 2,
+    YILGORZA_VP = 3,
+    YILGORZA_NOT = 4
+};
+
+#ifdef __cplusplus
+}
+#endif
+
+#endif

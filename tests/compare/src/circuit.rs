@@ -1,0 +1,204 @@
+//! Circuits for the generators and the link classes, with passes and merges as
+//! the scope document words them; nothing here is shared with the peer.
+
+use crate::random::Random;
+use std::fmt::Write;
+
+#[derive(Clone, Copy, Debug, PartialEq, Eq)]
+pub enum Gate {
+    Not { target: u8 },
+    Powered { power: u8, control: u8, target: u8 },
+}
+
+use Gate::{Not, Powered};
+
+impl Gate {
+    /// Gates compare by target, then control (a NOT before control 0), then
+    /// power. The number of a record in a gate list is in this order too.
+    pub fn record(self) -> u16 {
+        match self {
+            Not { target } => u16::from(target) * 132 + 2,
+            Powered {
+                power,
+                control,
+                target,
+            } => u16::from(target) * 132 + (u16::from(control) + 1) * 4 + u16::from(power),
+        }
+    }
+
+    pub fn random(random: &mut Random, lines: u8) -> Gate {
+        let target = random.below(usize::from(lines)) as u8;
+        let control = random.below(usize::from(lines)) as u8;
+        if control == target {
+            Not { target }
+        } else {
+            Powered {
+                power: random.between(1, 3) as u8,
+                control,
+                target,
+            }
+        }
+    }
+
+    pub fn undone(self) -> Gate {
+        match self {
+            Not { .. } => self,
+            Powered {
+                power,
+                control,
+                target,
+            } => Powered {
+                power: 4 - power,
+                control,
+                target,
+            },
+        }
+    }
+
+    fn target(self) -> u8 {
+        match self {
+            Not { target } | Powered { target, .. } => target,
+        }
+    }
+
+    fn has_control(self, line: u8) -> bool {
+        matches!(self, Powered { control, .. } if control == line)
+    }
+}
+
+/// Every gate on so many lines, in order.
+pub fn every_gate(lines: u8) -> Vec<Gate> {
+    let mut gates = Vec::new();
+    for target in 0..lines {
+        gates.push(Not { target });
+        for control in (0..lines).filter(|&control| control != target) {
+            for power in 1..=3 {
+                gates.push(Powered {
+                    power,
+                    control,
+                    target,
+                });
+            }
+        }
+    }
+    gates
+}
+
+/// Pass: neither's target is the other's control.
+pub fn pass(a: Gate, b: Gate) -> bool {
+    !a.has_control(b.target()) && !b.has_control(a.target())
+}
+
+/// Merge: what two neighbours become, if they merge.
+pub fn merge(a: Gate, b: Gate) -> Option<Vec<Gate>> {
+    match (a, b) {
+        (Not { target: t }, Not { target: u }) if t == u => Some(vec![]),
+        (
+            Powered {
+                power: p,
+                control,
+                target,
+            },
+            Powered {
+                power: q,
+                control: d,
+                target: u,
+            },
+        ) if control == d && target == u => Some(match (p + q) % 4 {
+            0 => vec![],
+            power => vec![Powered {
+                power,
+                control,
+                target,
+            }],
+        }),
+        _ => None,
+    }
+}
+
+/// A circuit linked to the given one, after some random steps: passes, merges
+/// and, more often, merges backwards.
+pub fn linked(
+    random: &mut Random,
+    lines: u8,
+    start: &[Gate],
+    steps: usize,
+    most: usize,
+) -> Vec<Gate> {
+    let mut gates = start.to_vec();
+    for _ in 0..steps {
+        match random.below(8) {
+            0 | 1 if gates.len() + 2 <= most => {
+                let gate = Gate::random(random, lines);
+                let place = random.below(gates.len() + 1);
+                gates.splice(place..place, [gate, gate.undone()]);
+            }
+            2 if !gates.is_empty() && gates.len() < most => {
+                let place = random.below(gates.len());
+                if let Powered {
+                    power,
+                    control,
+                    target,
+                } = gates[place]
+                {
+                    let first = random.between(1, 3) as u8;
+                    let second = (power + 4 - first) % 4;
+                    if second != 0 {
+                        gates.splice(
+                            place..=place,
+                            [
+                                Powered {
+                                    power: first,
+                                    control,
+                                    target,
+                                },
+                                Powered {
+                                    power: second,
+                                    control,
+                                    target,
+                                },
+                            ],
+                        );
+                    }
+                }
+            }
+            3 if gates.len() >= 2 && random.one_in(4) => {
+                let place = random.below(gates.len() - 1);
+                if let Some(merged) = merge(gates[place], gates[place + 1]) {
+                    gates.splice(place..place + 2, merged);
+                }
+            }
+            _ if gates.len() >= 2 => {
+                // Carry one gate some places along while it passes.
+                let mut place = random.below(gates.len() - 1);
+                for _ in 0..random.between(1, 6) {
+                    if place + 1 < gates.len() && pass(gates[place], gates[place + 1]) {
+                        gates.swap(place, place + 1);
+                        place += 1;
+                    }
+                }
+            }
+            _ => {}
+        }
+    }
+    gates
+}
+
+pub fn text(lines: u8, gates: &[Gate]) -> Vec<u8> {
+    let mut text = format!("(lines {lines})\n");
+    for gate in gates {
+        match gate {
+            Not { target } => writeln!(text, "(not {target})"),
+            Powered {
+                power,
+                control,
+                target,
+            } => {
+                let word = ["", "v", "cn", "vp"][usize::from(*power)];
+                writeln!(text, "({word} {control} {target})")
+            }
+        }
+        .unwrap();
+    }
+    text.into_bytes()
+}

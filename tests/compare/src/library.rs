@@ -1,0 +1,409 @@
+//! The static library against the peer, on many thousands of texts: number,
+//! line and count, every record and byte lent, and what stands beside them.
+
+use crate::circuit::{self, Gate};
+use crate::random::Random;
+use crate::report::{shown, Report};
+use crate::subject::{call, read_record, Area};
+use crate::texts;
+use peer::{Job, Outcome};
+
+const JOBS: [Job; 3] = [Job::Map, Job::Reduce, Job::Quote];
+const NOT_0: u16 = 2;
+
+type Part = fn(&mut Library);
+
+struct Library {
+    report: Report,
+    random: Random,
+    /// How often each number came up, for each job.
+    numbers: [[u64; 11]; 3],
+}
+
+pub fn run() -> Report {
+    let mut library = Library {
+        report: Report::new("library"),
+        random: Random::seeded(20_240_601),
+        numbers: [[0; 11]; 3],
+    };
+    let parts: [(&str, Part); 9] = [
+        ("every single change of small texts", Library::every_change),
+        ("valid texts", Library::valid),
+        ("damaged texts", Library::damaged),
+        ("texts with lines against several rules", Library::wild),
+        ("sizes of text and list", Library::sizes),
+        ("numbers of lines and gates at the limits", Library::limits),
+        ("long texts", Library::long),
+        ("linked circuits", Library::linked),
+        ("records", Library::records),
+    ];
+    for (name, part) in parts {
+        let before = library.report.passed + library.report.failed;
+        let start = std::time::Instant::now();
+        part(&mut library);
+        let cases = library.report.passed + library.report.failed - before;
+        println!(
+            "library: {name}: {cases} cases, {:.1} s",
+            start.elapsed().as_secs_f64()
+        );
+        library
+            .report
+            .case(cases > 0, || format!("{name}: no case ran"));
+    }
+    println!("library: number     0     1     2     3     4     5     6     7     8     9    10");
+    for (job, numbers) in JOBS.iter().zip(library.numbers) {
+        let row: Vec<String> = numbers.iter().map(|times| format!("{times:5}")).collect();
+        println!(
+            "library: {:7}{}",
+            format!("{job:?}").to_lowercase(),
+            row.join(" ")
+        );
+    }
+    for number in 0..=10 {
+        let times: u64 = library.numbers.iter().map(|numbers| numbers[number]).sum();
+        library
+            .report
+            .case(times > 0, || format!("number {number} never came up"));
+    }
+    library.report
+}
+
+impl Library {
+    /// One case: the same lent areas to both, everything compared.
+    fn case(&mut self, job: Job, text: &[u8], list_len: usize, answer_len: usize) -> Outcome {
+        // Junk that is no record of a gate.
+        let junk = 5_000 + (self.random.next() % 60_000) as u16;
+        let junk_byte = self.random.next() as u8;
+        let mut list = Area::filled(list_len, junk);
+        let mut answer = Area::filled(answer_len, junk_byte);
+        let text_area = Area::holding(text, junk_byte);
+        let got = call(job, &text_area, &mut list, &mut answer);
+
+        let mut expected_list = vec![junk; list_len];
+        let mut expected_answer = vec![junk_byte; answer_len];
+        let expected = match job {
+            Job::Map => peer::map(text, &mut expected_list, &mut expected_answer),
+            Job::Reduce => peer::reduce(text, &mut expected_list, &mut expected_answer),
+            Job::Quote => peer::quote(text, &mut expected_list),
+        };
+        if let Some(times) = self.numbers[job as usize].get_mut(got.number as usize) {
+            *times += 1;
+        }
+        let wrong = if got != expected {
+            "the outcome"
+        } else if list.inside() != expected_list {
+            "the gate list"
+        } else if answer.inside() != expected_answer {
+            "the answer area"
+        } else if text_area.inside() != text {
+            "the text, which was changed"
+        } else if !(list.guards_hold(junk)
+            && answer.guards_hold(junk_byte)
+            && text_area.guards_hold(junk_byte))
+        {
+            "the memory beside an area"
+        } else {
+            ""
+        };
+        self.report.case(wrong.is_empty(), || {
+            let first = list
+                .inside()
+                .iter()
+                .zip(&expected_list)
+                .position(|(a, b)| a != b);
+            format!(
+                "{job:?}, list of {list_len}, answer area of {answer_len}: {wrong} differs; \
+                 got {got:?}, expected {expected:?}, first record that differs {first:?}; text {}",
+                shown(text)
+            )
+        });
+        expected
+    }
+
+    fn list_len(&mut self) -> usize {
+        match self.random.below(40) {
+            0 => self.random.pick(&[0, 1, 2_048, 4_095, 4_095]),
+            1 => 4_097,
+            2 => 5_000,
+            3 => self.random.between(4_096, 9_000),
+            _ => 4_096,
+        }
+    }
+
+    /// A text to all jobs, with some lengths of list and answer area.
+    fn any_job(&mut self, text: &[u8]) {
+        for job in JOBS {
+            let list_len = self.list_len();
+            let answer_len = self.random.pick(&[0, 1, 9, 10, 50, 60, 200, 1_000, 50_000]);
+            self.case(job, text, list_len, answer_len);
+        }
+    }
+
+    /// A text to one job, with the answer area fitting, one short, empty,
+    /// larger by one and much larger.
+    fn areas(&mut self, job: Job, text: &[u8]) {
+        let list_len = self.list_len();
+        if job == Job::Quote {
+            self.case(job, text, list_len, 0);
+            return;
+        }
+        let outcome = self.case(job, text, list_len, 50_000);
+        if outcome.number == 0 {
+            let fitting = outcome.count as usize;
+            let shorter = self.random.below(fitting);
+            for answer_len in [fitting, fitting - 1, fitting + 1, 0, shorter] {
+                self.case(job, text, 4_096, answer_len);
+            }
+        }
+    }
+
+    fn cascade_areas(&mut self, text: &[u8]) {
+        self.areas(Job::Map, text);
+        self.areas(Job::Quote, text);
+    }
+
+    fn every_change(&mut self) {
+        for text in texts::SMALL {
+            for changed in texts::every_change(text.as_bytes()) {
+                let cascade = text.contains("mct");
+                let answer_len = self.random.pick(&[100, 300, 10]);
+                if cascade {
+                    self.case(Job::Map, &changed, 4_096, answer_len);
+                    self.case(Job::Quote, &changed, 4_096, 0);
+                } else {
+                    self.case(Job::Reduce, &changed, 4_096, answer_len);
+                }
+            }
+        }
+        self.any_job(b"");
+        for header in 0..=130 {
+            for zeros in ["", "0", "00"] {
+                self.any_job(format!("(lines {zeros}{header})\n").as_bytes());
+                self.any_job(format!("(lines 32)\n(not {zeros}{header})\n").as_bytes());
+                self.any_job(format!("(lines 32)\n(vp {zeros}{header} 1)\n").as_bytes());
+                self.any_job(format!("(lines 32)\n(mct () {zeros}{header})\n").as_bytes());
+                self.any_job(format!("(lines 32)\n(mct (1 {zeros}{header}) 0)\n").as_bytes());
+            }
+        }
+    }
+
+    fn valid(&mut self) {
+        for case in 0..4_000 {
+            let most = self.random.pick(&[2, 5, 12, 40, 120]);
+            let text = texts::circuit(&mut self.random, most);
+            self.areas(Job::Reduce, &text);
+            let most = if case % 8 == 0 { 1_500 } else { 150 };
+            let text = texts::cascade(&mut self.random, 12, most);
+            self.cascade_areas(&text);
+        }
+    }
+
+    fn damaged(&mut self) {
+        for _ in 0..8_000 {
+            let text = texts::circuit(&mut self.random, 12);
+            let text = texts::damaged(&mut self.random, &text);
+            self.any_job(&text);
+            let text = texts::cascade(&mut self.random, 6, 120);
+            let text = texts::damaged(&mut self.random, &text);
+            self.any_job(&text);
+        }
+    }
+
+    fn wild(&mut self) {
+        for _ in 0..8_000 {
+            let text = texts::wild(&mut self.random, true);
+            self.any_job(&text);
+            let text = texts::wild(&mut self.random, false);
+            self.any_job(&text);
+        }
+    }
+
+    fn sizes(&mut self) {
+        for size in [59_999, 60_000, 60_001, 60_002, 65_535, 65_536, 100_000] {
+            for _ in 0..24 {
+                let text = texts::of_size(&mut self.random, size);
+                self.any_job(&text);
+                for list_len in [4_095, 4_096, 5_000, 0] {
+                    let job = self.random.pick(&JOBS);
+                    self.case(job, &text, list_len, 100);
+                }
+            }
+        }
+        let cascade = b"(lines 5)\n(mct (0 1 2) 3)\n";
+        let circuit = b"(lines 3)\n(cn 0 1)\n(v 1 2)\n";
+        let malformed = b"(lines 3)\n(cn 0 1)\n(v 1 2)";
+        for list_len in [
+            0, 1, 2, 14, 4_094, 4_095, 4_096, 4_097, 5_000, 65_536, 70_000,
+        ] {
+            for text in [&cascade[..], circuit, malformed, b""] {
+                for job in JOBS {
+                    for answer_len in [0, 9, 27, 28, 200] {
+                        self.case(job, text, list_len, answer_len);
+                    }
+                }
+            }
+        }
+    }
+
+    fn limits(&mut self) {
+        for _ in 0..8 {
+            // 255 to 258 mct lines, the last perhaps against an earlier rule.
+            for count in 255..=258 {
+                let text = texts::cascade_of_lines(&mut self.random, count);
+                self.any_job(&text);
+                self.cascade_areas(&text);
+                let last = text[..text.len() - 1]
+                    .iter()
+                    .rposition(|&b| b == b'\n')
+                    .unwrap()
+                    + 1;
+                for line in [
+                    "(mct (0 0) 1)\n",
+                    "(mct (0 40) 1)\n",
+                    "(mct (0) 0)\n",
+                    "(mct () 0)",
+                    "(mct ()  0)\n",
+                ] {
+                    self.any_job(&[&text[..last], line.as_bytes()].concat());
+                }
+            }
+            // Expansions around the limit.
+            for total in 4_090..=4_100 {
+                let text = texts::cascade_of_total(&mut self.random, total);
+                self.any_job(&text);
+                self.case(Job::Map, &text, 4_096, 50_000);
+                let text = texts::damaged(&mut self.random, &text);
+                self.any_job(&text);
+            }
+        }
+        let wide = "(mct (0 1 2 3 4 5 6 7 8 9 10 11 12 13 14) 15)\n";
+        for (count, rest) in [
+            (10, 0),
+            (11, 0),
+            (12, 0),
+            (13, 0),
+            (11, 4),
+            (11, 5),
+            (11, 6),
+            (10, 256),
+            (11, 256),
+        ] {
+            let text =
+                "(lines 17)\n".to_string() + &wide.repeat(count) + &"(mct () 3)\n".repeat(rest);
+            self.cascade_areas(text.as_bytes());
+            self.any_job(text.as_bytes());
+        }
+        // Every number of controls on every number of lines.
+        for lines in 1..=33u8 {
+            for k in 0..=lines.min(32) {
+                let controls: Vec<String> = (0..k).map(|c| c.to_string()).collect();
+                for target in [k, lines.saturating_sub(1), lines] {
+                    let text =
+                        format!("(lines {lines})\n(mct ({}) {target})\n", controls.join(" "));
+                    self.cascade_areas(text.as_bytes());
+                }
+            }
+        }
+        // 4,095 to 4,098 gates, the last perhaps against an earlier rule.
+        for _ in 0..4 {
+            for count in 4_095..=4_098 {
+                let text = texts::circuit_of(&mut self.random, count);
+                self.any_job(&text);
+                self.case(Job::Reduce, &text, 4_096, 50_000);
+                let last = text[..text.len() - 1]
+                    .iter()
+                    .rposition(|&b| b == b'\n')
+                    .unwrap()
+                    + 1;
+                for line in ["(not 32)\n", "(cn 0 0)\n", "(not 0)", "(not  0)\n", "\n"] {
+                    self.case(
+                        Job::Reduce,
+                        &[&text[..last], line.as_bytes()].concat(),
+                        4_096,
+                        50_000,
+                    );
+                }
+            }
+        }
+        // A circuit that keeps all its 4,096 gates: the longest answers.
+        let mut text = b"(lines 32)\n".to_vec();
+        for _ in 0..2_048 {
+            text.extend_from_slice(b"(vp 30 31)\n(vp 31 30)\n");
+        }
+        self.areas(Job::Reduce, &text);
+        // Gates that all vanish, from the inside out.
+        let text = b"(lines 2)\n".to_vec();
+        let there = b"(cn 0 1)\n(v 1 0)\n".repeat(1_024);
+        let back = b"(vp 1 0)\n(cn 0 1)\n".repeat(1_024);
+        self.areas(Job::Reduce, &[text, there, back].concat());
+    }
+
+    fn long(&mut self) {
+        for case in 0..60 {
+            let most = if case % 3 == 0 { 4_096 } else { 1_500 };
+            let count = self.random.between(most / 2, most);
+            let text = texts::circuit_of(&mut self.random, count);
+            self.areas(Job::Reduce, &text);
+            let damaged = texts::damaged(&mut self.random, &text);
+            self.any_job(&damaged);
+            let total = self.random.between(most / 2, most);
+            let text = texts::cascade_of_total(&mut self.random, total);
+            self.cascade_areas(&text);
+            let damaged = texts::damaged(&mut self.random, &text);
+            self.any_job(&damaged);
+        }
+    }
+
+    /// Two linked circuits get one list.
+    fn linked(&mut self) {
+        for _ in 0..1_500 {
+            let lines = self.random.between(1, 9) as u8;
+            let count = self.random.below(20);
+            let start = texts::gates(&mut self.random, lines, count);
+            let steps = self.random.between(1, 400);
+            let end = circuit::linked(&mut self.random, lines, &start, steps, 4_096);
+            let texts = [circuit::text(lines, &start), circuit::text(lines, &end)];
+            let lists = texts.each_ref().map(|text| {
+                let mut list = Area::filled(4_096, 0xffff);
+                let mut answer = Area::filled(50_000, 0);
+                let outcome = call(Job::Reduce, &Area::holding(text, 0), &mut list, &mut answer);
+                (outcome, list.inside().to_vec(), answer.inside().to_vec())
+            });
+            let gates = lists[0].1.iter().filter(|&&record| record != NOT_0).count();
+            self.report
+                .case(lists[0] == lists[1] && lists[0].0.number == 0, || {
+                    format!(
+                        "two linked circuits: {} and {}, {gates} gates",
+                        shown(&texts[0]),
+                        shown(&texts[1])
+                    )
+                });
+            self.case(Job::Reduce, &texts[1], 4_096, 50_000);
+        }
+    }
+
+    /// Each gate on 32 lines is read from its record; larger numbers are no gate's.
+    fn records(&mut self) {
+        for gate in circuit::every_gate(32) {
+            let expected = match gate {
+                Gate::Not { target } => [4, 0, target],
+                Gate::Powered {
+                    power,
+                    control,
+                    target,
+                } => [power, control, target],
+            };
+            self.record(gate.record(), expected);
+        }
+        for record in 32 * 132..=u16::MAX {
+            self.record(record, [0; 3]);
+        }
+    }
+
+    fn record(&mut self, record: u16, expected: [u8; 3]) {
+        let got = read_record(record);
+        self.report.case(got == expected, || {
+            format!("record {record}: got {got:?}, expected {expected:?}")
+        });
+    }
+}

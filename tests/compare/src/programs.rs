@@ -1,0 +1,161 @@
+//! The programs against the peer: standard input to standard output, nothing
+//! on standard error, exit status 0.
+
+use crate::random::Random;
+use crate::report::{shown, Report};
+use crate::texts;
+use peer::Job;
+use std::io::{Read, Write};
+use std::path::Path;
+use std::process::{Child, Command, Stdio};
+
+const JOBS: [(Job, &str); 3] = [
+    (Job::Map, "map"),
+    (Job::Reduce, "reduce"),
+    (Job::Quote, "quote"),
+];
+
+pub fn run(directory: &Path) -> Report {
+    let mut report = Report::new("programs");
+    let mut random = Random::seeded(4_711);
+    let mut numbers = [0u64; 11];
+    for (job, name) in JOBS {
+        let before = report.passed + report.failed;
+        for text in all_texts(&mut random, job) {
+            // Every fourth text comes in pieces.
+            let piece = if random.one_in(4) {
+                random.between(1, 1 + text.len() / 3)
+            } else {
+                text.len().max(1)
+            };
+            let expected = peer::program_answer(job, &text);
+            let got = answer(&directory.join(name), &text, piece);
+            let number = match expected.strip_prefix(b"(turned-away ") {
+                None => 0,
+                Some(rest) => rest
+                    .iter()
+                    .take_while(|b| b.is_ascii_digit())
+                    .fold(0, |n, b| 10 * n + usize::from(b - b'0')),
+            };
+            numbers[number] += 1;
+            let passed = got.as_ref() == Ok(&expected);
+            report.case(passed, || {
+                let got = match &got {
+                    Ok(answer) => shown(answer),
+                    Err(what) => what.clone(),
+                };
+                format!(
+                    "{name}: got {got}, expected {}; text {}",
+                    shown(&expected),
+                    shown(&text)
+                )
+            });
+        }
+        println!(
+            "programs: {name}: {} cases",
+            report.passed + report.failed - before
+        );
+    }
+    println!(
+        "programs: numbers 0 to 9 expected so often: {:?}",
+        &numbers[..10]
+    );
+    report
+}
+
+fn all_texts(random: &mut Random, job: Job) -> Vec<Vec<u8>> {
+    let cascade = job != Job::Reduce;
+    let mut texts: Vec<Vec<u8>> = texts::SMALL
+        .iter()
+        .map(|text| text.as_bytes().to_vec())
+        .collect();
+    texts.push(Vec::new());
+    texts.push(b"\n".to_vec());
+    texts.push(b"(lines 4)\n(mct (0 1 2) 3)\n".to_vec());
+    texts.push(b"(lines 3)\n(mct (0 1) 2)\n(mct (0 1) 2)\n".to_vec());
+    let valid = |random: &mut Random, most| {
+        if cascade {
+            texts::cascade(random, 12, most)
+        } else {
+            texts::circuit(random, most)
+        }
+    };
+    for _ in 0..50 {
+        texts.push(valid(random, 150));
+    }
+    for _ in 0..40 {
+        let text = valid(random, 60);
+        texts.push(texts::damaged(random, &text));
+    }
+    for _ in 0..40 {
+        texts.push(texts::wild(random, cascade));
+    }
+    for size in [59_999, 60_000, 60_001, 60_002, 100_000, 1_000_000] {
+        texts.push(texts::of_size(random, size));
+    }
+    for count in [256, 257] {
+        texts.push(texts::cascade_of_lines(random, count));
+    }
+    for total in [4_092, 4_096, 4_097] {
+        texts.push(texts::cascade_of_total(random, total));
+    }
+    for count in [1_000, 4_095, 4_096, 4_097] {
+        texts.push(texts::circuit_of(random, count));
+    }
+    // The longest answer there is.
+    texts.push(
+        [
+            &b"(lines 32)\n"[..],
+            &b"(vp 30 31)\n(vp 31 30)\n".repeat(2_048),
+        ]
+        .concat(),
+    );
+    texts
+}
+
+/// What a program writes for a text that comes in pieces of this size.
+fn answer(program: &Path, text: &[u8], piece: usize) -> Result<Vec<u8>, String> {
+    let mut child = Command::new(program)
+        .stdin(Stdio::piped())
+        .stdout(Stdio::piped())
+        .stderr(Stdio::piped())
+        .spawn()
+        .map_err(|error| format!("{}: {error}", program.display()))?;
+    feed(&mut child, text, piece);
+    let mut written = Vec::new();
+    let mut complaint = Vec::new();
+    child
+        .stdout
+        .take()
+        .unwrap()
+        .read_to_end(&mut written)
+        .map_err(|e| e.to_string())?;
+    child
+        .stderr
+        .take()
+        .unwrap()
+        .read_to_end(&mut complaint)
+        .map_err(|e| e.to_string())?;
+    let status = child.wait().map_err(|e| e.to_string())?;
+    if !status.success() {
+        return Err(format!("{status}, standard error {}", shown(&complaint)));
+    }
+    if !complaint.is_empty() {
+        return Err(format!("on standard error {}", shown(&complaint)));
+    }
+    Ok(written)
+}
+
+/// Writes the text and closes the pipe. A program may stop reading a text that
+/// is too long, so an error in writing is none.
+fn feed(child: &mut Child, text: &[u8], piece: usize) {
+    let mut input = child.stdin.take().unwrap();
+    for (place, part) in text.chunks(piece).enumerate() {
+        if input.write_all(part).is_err() {
+            return;
+        }
+        if piece < text.len() && place < 4 {
+            std::thread::sleep(std::time::Duration::from_millis(1));
+        }
+    }
+}

@@ -1,0 +1,207 @@
+//! Reduce on all small circuits, against their whole link classes.
+//!
+//! For some lines and some length L, all circuits of at most L gates are nodes,
+//! and each pass and each merge between two of them joins two classes (a step
+//! backwards joins the same two). In each class the expected list is the first
+//! in dictionary order of the shortest; the library has to give it for every
+//! circuit of at most C gates, C < L.
+//!
+//! Chains may lead over circuits longer than L. That these join no further
+//! classes is the confluence of passes and forward merges: a chain over a
+//! longer circuit can be replaced by two chains of forward steps, which never
+//! get longer, into one circuit. It isn't taken on trust alone: the classes are
+//! computed with bound C and with bound L > C, and have to be the same on the
+//! circuits of at most C gates.
+
+use crate::circuit::{self, merge, pass, text, Gate};
+use crate::report::{shown, Report};
+use crate::subject::{call, Area};
+use peer::Job;
+
+/// Lines, C and L.
+const SPACES: [(u8, usize, usize); 4] = [(1, 12, 14), (2, 6, 7), (3, 4, 5), (4, 3, 4)];
+
+pub fn run() -> Report {
+    let mut report = Report::new("small");
+    for (lines, compared, bound) in SPACES {
+        let before = report.passed + report.failed;
+        let space = Space::new(lines);
+        let narrow = space.classes(compared);
+        let wide = space.classes(bound);
+        let circuits = space.circuits_up_to(compared);
+        let same = (0..circuits).all(|node| narrow.first(node) == wide.first(node));
+        report.case(same, || {
+            format!("{lines} lines: longer circuits join further classes")
+        });
+        let mut answer = Area::filled(200, b'?');
+        let mut classes = 0;
+        for node in 0..circuits {
+            let gates = space.gates(node);
+            let expected = space.gates(wide.first(node));
+            classes += usize::from(wide.first(node) == node);
+            let circuit_text = text(lines, &gates);
+            let expected_text = text(lines, &expected);
+            let mut list = Area::filled(4_096, 0xffff);
+            let outcome = call(
+                Job::Reduce,
+                &Area::holding(&circuit_text, 0),
+                &mut list,
+                &mut answer,
+            );
+            let (front, rest) = list.inside().split_at(expected.len());
+            let passed = outcome.number == 0
+                && outcome.line == 0
+                && outcome.count as usize == expected_text.len()
+                && answer.inside()[..expected_text.len()] == expected_text
+                && front
+                    .iter()
+                    .zip(&expected)
+                    .all(|(record, gate)| *record == gate.record())
+                && rest
+                    .iter()
+                    .all(|&record| record == Gate::Not { target: 0 }.record());
+            report.case(passed, || {
+                let written = (outcome.count as usize).min(200);
+                format!(
+                    "{} gives {outcome:?} {}, expected {}",
+                    shown(&circuit_text),
+                    shown(&answer.inside()[..written]),
+                    shown(&expected_text)
+                )
+            });
+        }
+        println!(
+            "small: {lines} lines, up to {compared} gates: {} cases in {classes} classes (chains over up to {bound} gates)",
+            report.passed + report.failed - before
+        );
+    }
+    report
+}
+
+/// All circuits on some lines, numbered by length and then in dictionary order:
+/// the least number of a class is the list expected for all of it.
+struct Space {
+    /// All gates on these lines, in gate order.
+    alphabet: Vec<Gate>,
+}
+
+/// A forest in which each tree is a class, with its least number at the root.
+struct Classes {
+    parent: Vec<u32>,
+}
+
+impl Space {
+    fn new(lines: u8) -> Space {
+        let alphabet = circuit::every_gate(lines);
+        assert!(alphabet
+            .windows(2)
+            .all(|pair| pair[0].record() < pair[1].record()));
+        Space { alphabet }
+    }
+
+    fn circuits_up_to(&self, length: usize) -> usize {
+        (0..=length as u32)
+            .map(|l| self.alphabet.len().pow(l))
+            .sum()
+    }
+
+    /// The circuit of a number, as places in the alphabet.
+    fn places(&self, node: usize) -> Vec<usize> {
+        let mut length = 0;
+        let mut rest = node;
+        while rest >= self.alphabet.len().pow(length) {
+            rest -= self.alphabet.len().pow(length);
+            length += 1;
+        }
+        let mut places = vec![0; length as usize];
+        for place in places.iter_mut().rev() {
+            *place = rest % self.alphabet.len();
+            rest /= self.alphabet.len();
+        }
+        places
+    }
+
+    fn gates(&self, node: usize) -> Vec<Gate> {
+        self.places(node)
+            .iter()
+            .map(|&place| self.alphabet[place])
+            .collect()
+    }
+
+    fn number(&self, places: impl ExactSizeIterator<Item = usize>) -> usize {
+        let shorter: usize = (0..places.len() as u32)
+            .map(|l| self.alphabet.len().pow(l))
+            .sum();
+        shorter + places.fold(0, |number, place| number * self.alphabet.len() + place)
+    }
+
+    /// The classes under all passes and merges between circuits of at most so
+    /// many gates.
+    fn classes(&self, bound: usize) -> Classes {
+        let circuits = self.circuits_up_to(bound);
+        let mut classes = Classes {
+            parent: (0..circuits as u32).collect(),
+        };
+        let size = self.alphabet.len();
+        let passes: Vec<bool> = (0..size * size)
+            .map(|pair| pass(self.alphabet[pair / size], self.alphabet[pair % size]))
+            .collect();
+        // What two places merge into, as places.
+        let merges: Vec<Option<Vec<usize>>> = (0..size * size)
+            .map(|pair| {
+                let merged = merge(self.alphabet[pair / size], self.alphabet[pair % size])?;
+                Some(
+                    merged
+                        .iter()
+                        .map(|gate| self.alphabet.iter().position(|g| g == gate).unwrap())
+                        .collect(),
+                )
+            })
+            .collect();
+        for node in 0..circuits {
+            let places = self.places(node);
+            for at in 1..places.len() {
+                let (before, pair, after) = (
+                    &places[..at - 1],
+                    (places[at - 1], places[at]),
+                    &places[at + 1..],
+                );
+                let mut linked = |middle: &[usize]| {
+                    let whole: Vec<usize> = [before, middle, after].concat();
+                    classes.join(node, self.number(whole.into_iter()));
+                };
+                if passes[pair.0 * size + pair.1] {
+                    linked(&[pair.1, pair.0]);
+                }
+                if let Some(merged) = &merges[pair.0 * size + pair.1] {
+                    linked(merged);
+                }
+            }
+        }
+        for node in 0..circuits {
+            let first = classes.first(node);
+            classes.parent[node] = first as u32;
+        }
+        classes
+    }
+}
+
+impl Classes {
+    /// The least number of a circuit's class.
+    fn first(&self, node: usize) -> usize {
+        let mut node = node;
+        while self.parent[node] as usize != node {
+            node = self.parent[node] as usize;
+        }
+        node
+    }
+
+    /// Joins two classes under the least of their numbers.
+    fn join(&mut self, a: usize, b: usize) {
+        let (first_a, first_b) = (self.first(a), self.first(b));
+        let least = first_a.min(first_b);
+        for node in [first_a, first_b, a, b] {
+            self.parent[node] = least as u32;
+        }
+    }
+}

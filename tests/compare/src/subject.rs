@@ -1,0 +1,118 @@
+//! The C functions under test, as ../../../include/yilgorza.h declares them for
+//! the other harnesses, and calls of them on guarded areas.
+
+use peer::{Job, Outcome};
+
+extern "C" {
+    fn yilgorza_map(
+        text: *const u8,
+        text_len: usize,
+        list: *mut u16,
+        list_len: usize,
+        answer: *mut u8,
+        answer_len: usize,
+        outcome: *mut u64,
+    );
+    fn yilgorza_reduce(
+        text: *const u8,
+        text_len: usize,
+        list: *mut u16,
+        list_len: usize,
+        answer: *mut u8,
+        answer_len: usize,
+        outcome: *mut u64,
+    );
+    fn yilgorza_quote(
+        text: *const u8,
+        text_len: usize,
+        list: *mut u16,
+        list_len: usize,
+        outcome: *mut u64,
+    );
+    fn yilgorza_gate(record: u16, gate: *mut u8);
+}
+
+/// How many records or bytes before and after each area are watched.
+const GUARD: usize = 32;
+
+/// An area with watched room before and after it.
+pub struct Area<T> {
+    all: Vec<T>,
+}
+
+impl<T: Copy + PartialEq> Area<T> {
+    pub fn filled(length: usize, junk: T) -> Area<T> {
+        Area {
+            all: vec![junk; length + 2 * GUARD],
+        }
+    }
+
+    pub fn holding(content: &[T], junk: T) -> Area<T> {
+        let mut area = Area::filled(content.len(), junk);
+        area.inside_mut().copy_from_slice(content);
+        area
+    }
+
+    pub fn inside(&self) -> &[T] {
+        &self.all[GUARD..self.all.len() - GUARD]
+    }
+
+    pub fn inside_mut(&mut self) -> &mut [T] {
+        let end = self.all.len() - GUARD;
+        &mut self.all[GUARD..end]
+    }
+
+    pub fn guards_hold(&self, junk: T) -> bool {
+        let end = self.all.len() - GUARD;
+        self.all[..GUARD]
+            .iter()
+            .chain(&self.all[end..])
+            .all(|value| *value == junk)
+    }
+}
+
+/// Calls one of the C functions. `answer` is left alone by quote.
+pub fn call(job: Job, text: &Area<u8>, list: &mut Area<u16>, answer: &mut Area<u8>) -> Outcome {
+    // One more word before and after, to see writes beside the three.
+    let mut outcome = [u64::MAX; 5];
+    let text = text.inside();
+    let list = list.inside_mut();
+    let answer = answer.inside_mut();
+    // The areas are live, of the lengths given, and don't overlap.
+    unsafe {
+        let (text, text_len) = (text.as_ptr(), text.len());
+        let (list, list_len) = (list.as_mut_ptr(), list.len());
+        let (answer, answer_len) = (answer.as_mut_ptr(), answer.len());
+        let result = outcome.as_mut_ptr().add(1);
+        match job {
+            Job::Map => yilgorza_map(text, text_len, list, list_len, answer, answer_len, result),
+            Job::Reduce => {
+                yilgorza_reduce(text, text_len, list, list_len, answer, answer_len, result)
+            }
+            Job::Quote => yilgorza_quote(text, text_len, list, list_len, result),
+        }
+    }
+    assert!(
+        outcome[0] == u64::MAX && outcome[4] == u64::MAX,
+        "a word beside the outcome was written"
+    );
+    Outcome {
+        number: outcome[1],
+        line: outcome[2],
+        count: outcome[3],
+    }
+}
+
+/// Kind, control and target of a record.
+pub fn read_record(record: u16) -> [u8; 3] {
+    // One more byte before and after, to see writes beside the three.
+    let mut gate = [0xa5; 5];
+    // Three bytes are live from the second on.
+    unsafe { yilgorza_gate(record, gate.as_mut_ptr().add(1)) };
+    let [before, parts @ .., after] = gate;
+    assert!(
+        before == 0xa5 && after == 0xa5,
+        "a byte beside the gate was written"
+    );
+    parts
+}

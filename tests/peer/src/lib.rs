@@ -1,0 +1,216 @@
+//! A second implementation of the three jobs (map, reduce, quote), written
+//! from the scope document alone, in plain Rust. The comparisons take it as the
+//! expected answer, the benchmark as the peer in speed.
+//!
+//! Modules: `gate` (gates, their numbers and when two pass), `reader` (the two
+//! texts and rules 3 to 9), `expansion` (from mct gates to NCV gates),
+//! `reduction` (merge to a fixed point, then order by selection). This file
+//! holds the jobs themselves: the lent memory and rules 1, 2 and 10.
+
+pub mod expansion;
+pub mod gate;
+pub mod reader;
+pub mod reduction;
+
+use gate::Gate;
+
+/// The longest text, in bytes (rule 1).
+pub const LONGEST_TEXT: usize = 60_000;
+/// The shortest gate list, in records (rule 2).
+pub const SHORTEST_LIST: usize = 4_096;
+/// The most gates a circuit or an expansion may have (rule 9).
+pub const MOST_GATES: usize = 4_096;
+/// The most mct lines of a cascade (rule 9).
+pub const MOST_MCTS: usize = 256;
+
+/// What a job returns: the number 0 to 10, the line and the count.
+#[derive(Clone, Copy, Debug, PartialEq, Eq)]
+pub struct Outcome {
+    pub number: u64,
+    pub line: u64,
+    pub count: u64,
+}
+
+/// A refusal: its number and its line (0 where the rule has no line).
+#[derive(Clone, Copy, Debug, PartialEq, Eq)]
+pub struct Refusal {
+    pub number: u64,
+    pub line: u64,
+}
+
+impl From<Refusal> for Outcome {
+    fn from(refusal: Refusal) -> Outcome {
+        Outcome {
+            number: refusal.number,
+            line: refusal.line,
+            count: 0,
+        }
+    }
+}
+
+/// The number of lines and the gates of a text, expanded where it is a cascade.
+pub struct Circuit {
+    pub lines: u8,
+    pub gates: Vec<Gate>,
+}
+
+#[derive(Clone, Copy, Debug, PartialEq, Eq)]
+pub enum Kind {
+    Cascade,
+    Circuit,
+}
+
+/// Map a cascade text to a circuit text.
+pub fn map(text: &[u8], list: &mut [u16], answer: &mut [u8]) -> Outcome {
+    writing_job(Kind::Cascade, text, list, answer)
+}
+
+/// Reduce a circuit text.
+pub fn reduce(text: &[u8], list: &mut [u16], answer: &mut [u8]) -> Outcome {
+    writing_job(Kind::Circuit, text, list, answer)
+}
+
+/// Count the gates that `map` would give for a cascade text.
+pub fn quote(text: &[u8], list: &mut [u16]) -> Outcome {
+    match reduced(Kind::Cascade, text, list) {
+        Err(refusal) => refusal.into(),
+        Ok(circuit) => {
+            fill(list, &circuit.gates);
+            Outcome {
+                number: 0,
+                line: 0,
+                count: circuit.gates.len() as u64,
+            }
+        }
+    }
+}
+
+fn writing_job(kind: Kind, text: &[u8], list: &mut [u16], answer: &mut [u8]) -> Outcome {
+    let circuit = match reduced(kind, text, list) {
+        Err(refusal) => return refusal.into(),
+        Ok(circuit) => circuit,
+    };
+    let written = circuit_text(&circuit);
+    if written.len() > answer.len() {
+        fill(list, &[]);
+        return Refusal {
+            number: 10,
+            line: 0,
+        }
+        .into();
+    }
+    answer[..written.len()].copy_from_slice(&written);
+    fill(list, &circuit.gates);
+    Outcome {
+        number: 0,
+        line: 0,
+        count: written.len() as u64,
+    }
+}
+
+/// Rules 1 to 9, then the reduced list. Any refusal from rule 3 on clears the
+/// gate list; on success it is still as it was lent.
+fn reduced(kind: Kind, text: &[u8], list: &mut [u16]) -> Result<Circuit, Refusal> {
+    if text.len() > LONGEST_TEXT {
+        return Err(Refusal { number: 1, line: 0 });
+    }
+    if list.len() < SHORTEST_LIST {
+        return Err(Refusal { number: 2, line: 0 });
+    }
+    match reader::read(kind, text) {
+        Err(refusal) => {
+            fill(list, &[]);
+            Err(refusal)
+        }
+        Ok(circuit) => Ok(Circuit {
+            lines: circuit.lines,
+            gates: reduction::reduce(&circuit.gates),
+        }),
+    }
+}
+
+/// Puts the gates first and `not 0` in every later record.
+fn fill(list: &mut [u16], gates: &[Gate]) {
+    let (front, rest) = list.split_at_mut(gates.len());
+    for (record, gate) in front.iter_mut().zip(gates) {
+        *record = gate.number();
+    }
+    rest.fill(Gate::not(0).number());
+}
+
+/// The text of a circuit.
+pub fn circuit_text(circuit: &Circuit) -> Vec<u8> {
+    let mut text = Vec::with_capacity(11 * (circuit.gates.len() + 1));
+    text.extend_from_slice(b"(lines ");
+    put_number(&mut text, circuit.lines);
+    text.extend_from_slice(b")\n");
+    for gate in &circuit.gates {
+        match gate.control() {
+            None => text.extend_from_slice(b"(not "),
+            Some(control) => {
+                text.extend_from_slice(match gate.power() {
+                    1 => b"(v ",
+                    2 => b"(cn ",
+                    _ => b"(vp ",
+                });
+                put_number(&mut text, control);
+                text.push(b' ');
+            }
+        }
+        put_number(&mut text, gate.target());
+        text.extend_from_slice(b")\n");
+    }
+    text
+}
+
+fn put_number(text: &mut Vec<u8>, number: u8) {
+    if number >= 10 {
+        text.push(b'0' + number / 10);
+    }
+    text.push(b'0' + number % 10);
+}
+
+/// What the program of a job writes for a text: the answer, or the form
+/// `(turned-away r l)`.
+pub fn program_answer(job: Job, text: &[u8]) -> Vec<u8> {
+    let mut list = [0u16; SHORTEST_LIST];
+    let mut answer = vec![0u8; 11 * (MOST_GATES + 1)];
+    let outcome = match job {
+        Job::Map => map(text, &mut list, &mut answer),
+        Job::Reduce => reduce(text, &mut list, &mut answer),
+        Job::Quote => quote(text, &mut list),
+    };
+    if outcome.number != 0 {
+        return format!("(turned-away {} {})\n", outcome.number, outcome.line).into_bytes();
+    }
+    match job {
+        Job::Quote => format!("(quote {})\n", outcome.count).into_bytes(),
+        _ => {
+            answer.truncate(outcome.count as usize);
+            answer
+        }
+    }
+}
+
+#[derive(Clone, Copy, Debug, PartialEq, Eq)]
+pub enum Job {
+    Map,
+    Reduce,
+    Quote,
+}
+
+/// The whole of a program: standard input to standard output.
+pub fn run_program(job: Job) -> std::io::Result<()> {
+    use std::io::{Read, Write};
+    let mut text = Vec::with_capacity(LONGEST_TEXT + 1);
+    std::io::stdin()
+        .lock()
+        .take(LONGEST_TEXT as u64 + 1)
+        .read_to_end(&mut text)?;
+    std::io::stdout()
+        .lock()
+        .write_all(&program_answer(job, &text))
+}
+
+#[cfg(test)]
+mod examples;

@@ -1,0 +1,287 @@
+/* Compares the programs map and reduce with the simulator libquantum, on seeded
+   random cascades and circuits of up to six lines, from each of the 2^n starts:
+   the circuit that map writes has to end in the cascade's pattern with amplitude
+   1, and the circuit that reduce writes has to end in the amplitudes of its
+   input. Some short cascades on seven and eight lines are among them: there,
+   and not below, a half of the controls is itself made from four smaller gates.
+
+   A controlled V is a Hadamard gate on the target, a conditional phase kick of
+   pi/2 (V+: -pi/2) and a Hadamard gate again: with the phase kick diag(1, i)
+   between them the two Hadamard gates give half of [[1+i, 1-i], [1-i, 1+i]].
+
+   usage: simulator PROGRAM_DIRECTORY SCRATCH_DIRECTORY
+   The last line is `N passed, M failed`; a case is one text. */
+
+#include <complex.h>
+#include <math.h>
+#include <quantum.h>
+#include <stdint.h>
+#include <stdio.h>
+#include <stdlib.h>
+#include <string.h>
+
+enum { USUAL_LINES = 6, MOST_LINES = 8, MOST_GATES = 4096, MOST_MCTS = 16 };
+enum { CASCADES = 400, CIRCUITS = 400 };
+static const double TOLERANCE = 1e-3;
+
+enum word { NOT, CN, V, VP };
+
+struct gate {
+    enum word word;
+    int control, target;
+};
+
+struct circuit {
+    int lines, count;
+    struct gate gates[MOST_GATES];
+};
+
+struct mct {
+    unsigned controls; /* one bit a line */
+    int target;
+};
+
+struct cascade {
+    int lines, count;
+    struct mct mcts[MOST_MCTS];
+};
+
+static uint64_t state = 7;
+
+static int below(int bound)
+{
+    state = state * 6364136223846793005u + 1442695040888963407u;
+    return (int)((state >> 33) % (unsigned)bound);
+}
+
+static void random_cascade(struct cascade *cascade)
+{
+    int wide = below(12) == 0;
+    int lines = wide ? 7 + below(2) : 1 + below(USUAL_LINES);
+    cascade->lines = lines;
+    cascade->count = wide ? 1 : below(9);
+    for (int i = 0; i < cascade->count; i++) {
+        struct mct *mct = &cascade->mcts[i];
+        int k;
+        do {
+            mct->target = below(lines);
+            mct->controls = (unsigned)below(1 << lines) & ~(1u << mct->target);
+            k = __builtin_popcount(mct->controls);
+        } while ((k >= 3 && lines == k + 1) || (wide && k < 5));
+    }
+}
+
+static void random_circuit(struct circuit *circuit)
+{
+    int lines = 1 + below(USUAL_LINES);
+    circuit->lines = lines;
+    circuit->count = below(below(4) ? 25 : 90);
+    for (int i = 0; i < circuit->count; i++) {
+        struct gate *gate = &circuit->gates[i];
+        gate->target = below(lines);
+        gate->control = below(lines);
+        gate->word = gate->control == gate->target ? NOT : CN + below(3);
+    }
+    /* In some circuits a stretch and its undoing around the middle. */
+    if (circuit->count && below(3) == 0) {
+        int half = circuit->count / 2;
+        for (int i = 0; i < half; i++) {
+            struct gate gate = circuit->gates[i];
+            if (gate.word == V || gate.word == VP)
+                gate.word = gate.word == V ? VP : V;
+            circuit->gates[circuit->count - 1 - i] = gate;
+        }
+        if (half > 2)
+            circuit->gates[half + below(half)].target = below(lines);
+        for (int i = 0; i < circuit->count; i++) {
+            struct gate *gate = &circuit->gates[i];
+            if (gate->word != NOT && gate->control == gate->target)
+                gate->word = NOT;
+        }
+    }
+}
+
+static void write_cascade(FILE *file, const struct cascade *cascade)
+{
+    fprintf(file, "(lines %d)\n", cascade->lines);
+    for (int i = 0; i < cascade->count; i++) {
+        const char *space = "";
+        fprintf(file, "(mct (");
+        for (int line = 0; line < cascade->lines; line++)
+            if (cascade->mcts[i].controls >> line & 1) {
+                fprintf(file, "%s%d", space, line);
+                space = " ";
+            }
+        fprintf(file, ") %d)\n", cascade->mcts[i].target);
+    }
+}
+
+static void write_circuit(FILE *file, const struct circuit *circuit)
+{
+    static const char *words[] = { "not", "cn", "v", "vp" };
+    fprintf(file, "(lines %d)\n", circuit->lines);
+    for (int i = 0; i < circuit->count; i++) {
+        const struct gate *gate = &circuit->gates[i];
+        fprintf(file, "(%s ", words[gate->word]);
+        if (gate->word != NOT)
+            fprintf(file, "%d ", gate->control);
+        fprintf(file, "%d)\n", gate->target);
+    }
+}
+
+/* Runs a program on the text in the file and reads the circuit that it writes;
+   0 if it writes none. */
+static int run(const char *directory, const char *program, const char *file, struct circuit *answer)
+{
+    char command[4096], line[64], word[8], end[3];
+    snprintf(command, sizeof command, "'%s/%s' < '%s'", directory, program, file);
+    FILE *pipe = popen(command, "r");
+    if (!pipe)
+        return 0;
+    int good = fgets(line, sizeof line, pipe) != NULL
+        && sscanf(line, "(lines %d%2s", &answer->lines, end) == 2 && !strcmp(end, ")");
+    answer->count = 0;
+    while (good && fgets(line, sizeof line, pipe)) {
+        struct gate gate = { NOT, 0, 0 };
+        good = sscanf(line, "(%7s", word) == 1 && answer->count < MOST_GATES;
+        if (!good)
+            break;
+        if (!strcmp(word, "not")) {
+            good = sscanf(line, "(not %d%2s", &gate.target, end) == 2;
+        } else {
+            gate.word = !strcmp(word, "cn") ? CN : !strcmp(word, "v") ? V : VP;
+            good = (gate.word != VP || !strcmp(word, "vp"))
+                && sscanf(line, "(%*s %d %d%2s", &gate.control, &gate.target, end) == 3
+                && gate.control >= 0 && gate.control < answer->lines && gate.control != gate.target;
+        }
+        good = good && !strcmp(end, ")") && gate.target >= 0 && gate.target < answer->lines;
+        answer->gates[answer->count++] = gate;
+    }
+    return pclose(pipe) == 0 && good;
+}
+
+static void controlled_v(int control, int target, float angle, quantum_reg *reg)
+{
+    quantum_hadamard(target, reg);
+    quantum_cond_phase_kick(control, target, angle, reg);
+    quantum_hadamard(target, reg);
+}
+
+/* The amplitudes after the circuit, from one start. */
+static void simulate(const struct circuit *circuit, unsigned start, complex double *amplitudes)
+{
+    quantum_reg reg = quantum_new_qureg(start, circuit->lines);
+    for (int i = 0; i < circuit->count; i++) {
+        const struct gate *gate = &circuit->gates[i];
+        switch (gate->word) {
+        case NOT:
+            quantum_sigma_x(gate->target, &reg);
+            break;
+        case CN:
+            quantum_cnot(gate->control, gate->target, &reg);
+            break;
+        case V:
+            controlled_v(gate->control, gate->target, (float)M_PI_2, &reg);
+            break;
+        case VP:
+            controlled_v(gate->control, gate->target, (float)-M_PI_2, &reg);
+            break;
+        }
+    }
+    for (int pattern = 0; pattern < 1 << circuit->lines; pattern++)
+        amplitudes[pattern] = 0;
+    for (int i = 0; i < reg.size; i++)
+        amplitudes[reg.state[i]] += reg.amplitude[i];
+    quantum_delete_qureg(&reg);
+}
+
+static int close_to(const complex double *a, const complex double *b, int lines)
+{
+    for (int pattern = 0; pattern < 1 << lines; pattern++)
+        if (!(cabs(a[pattern] - b[pattern]) < TOLERANCE))
+            return 0;
+    return 1;
+}
+
+static unsigned run_cascade(const struct cascade *cascade, unsigned pattern)
+{
+    for (int i = 0; i < cascade->count; i++) {
+        const struct mct *mct = &cascade->mcts[i];
+        if ((pattern & mct->controls) == mct->controls)
+            pattern ^= 1u << mct->target;
+    }
+    return pattern;
+}
+
+static struct cascade cascade;
+static struct circuit circuit, answer;
+static long passed, failed, starts;
+
+static void count(int good, const char *what, const char *file)
+{
+    if (good) {
+        passed++;
+        return;
+    }
+    if (++failed > 10)
+        return;
+    printf("simulator: FAILED: %s, text:\n", what);
+    FILE *text = fopen(file, "r");
+    for (int c; text && (c = getc(text)) != EOF;)
+        putchar(c);
+    if (text)
+        fclose(text);
+}
+
+/* One case: a text is written to the file and run, then all starts. */
+static void one_case(int is_cascade, const char *directory, const char *file)
+{
+    complex double got[1 << MOST_LINES], expected[1 << MOST_LINES];
+    FILE *text = fopen(file, "w");
+    if (!text) {
+        perror(file);
+        exit(1);
+    }
+    if (is_cascade) {
+        random_cascade(&cascade);
+        write_cascade(text, &cascade);
+    } else {
+        random_circuit(&circuit);
+        write_circuit(text, &circuit);
+    }
+    fclose(text);
+    const char *program = is_cascade ? "map" : "reduce";
+    int lines = is_cascade ? cascade.lines : circuit.lines;
+    int good = run(directory, program, file, &answer) && answer.lines == lines;
+    for (unsigned start = 0; good && start < 1u << lines; start++, starts++) {
+        if (is_cascade) {
+            for (int pattern = 0; pattern < 1 << lines; pattern++)
+                expected[pattern] = 0;
+            expected[run_cascade(&cascade, start)] = 1;
+        } else {
+            simulate(&circuit, start, expected);
+        }
+        simulate(&answer, start, got);
+        good = close_to(got, expected, lines);
+    }
+    count(good, program, file);
+}
+
+int main(int argc, char **argv)
+{
+    if (argc != 3) {
+        fprintf(stderr, "usage: simulator PROGRAM_DIRECTORY SCRATCH_DIRECTORY\n");
+        return 2;
+    }
+    char file[4096];
+    snprintf(file, sizeof file, "%s/simulator.text", argv[2]);
+    for (int i = 0; i < CASCADES; i++)
+        one_case(1, argv[1], file);
+    printf("simulator: map: %d cascades, %ld starts\n", CASCADES, starts);
+    starts = 0;
+    for (int i = 0; i < CIRCUITS; i++)
+        one_case(0, argv[1], file);
+    printf("simulator: reduce: %d circuits, %ld starts\n", CIRCUITS, starts);
+    printf("%ld passed, %ld failed\n", passed, failed);
+    return passed > 0 && failed == 0 ? 0 : 1;
+}
