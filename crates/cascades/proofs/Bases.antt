@@ -36,6 +36,12 @@ module _ (n : ℕ) where
       go true = flip-agree n t x y e
       go false = e
 
+  -- and so does a cascade: its pattern on the n lines depends on nothing beyond them
+  pub after-agree : (gs : List Controlled) → AllOnLines n gs → (x y : Pattern) → agree n x y ≡ true → agree n (after gs x) (after gs y) ≡ true
+  unfolding after AllOnLines
+  after-agree [] w x y e = e
+  after-agree (g ∷ gs) w x y e = after-agree gs (w .1) _ _ (mct-agree (g .controls) (g .target) x y (w .0 .below) e)
+
 -- a cascade leaves a line alone that none of its gates has as target
 pub after-restored : (gs : List Controlled) (y : Pattern) (i : ℕ) → has i (targets gs) ≡ false → after gs y i ≡ y i
 unfolding after targets

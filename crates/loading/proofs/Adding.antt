@@ -16,6 +16,7 @@ use Rattle.text.specs.declared.Head.{Head}
 use Rattle.expansion.specs.Written.{Written}
 use Rattle.expansion.proofs.Writing.{before, read}
 use Rattle.expansion.proofs.Circuits.{expansion-codes}
+use Rattle.reduction.specs.Bounds.{Bounds}
 use Rattle.reduction.specs.Pushed.{PushedAll}
 use Rattle.loading.specs.Loaded.{Addable, Added}
 
@@ -32,6 +33,9 @@ module _ {h : Head} {t : ℕ} {cs l m : List ℕ} {n j : ℕ} (w : Addable h t c
   pub within : length m ≡ length l → j ≤ length m
   within e = omega (arith, x .count, w .room, e)
 
+  pub few : j ≤ 4096
+  few = omega (arith, x .count, w .few)
+
   pub expanded-codes : AllCodes 32 (take j m)
   expanded-codes = rw (x .front) (all-codes-append 32 (take n l) (map code made) (w .codes) (expansion-codes (h .lines) (w .narrow) cs t (w .expandable) (w .below)))
 
@@ -40,6 +44,9 @@ module _ {h : Head} {t : ℕ} {cs l m : List ℕ} {n j : ℕ} (w : Addable h t c
 
   pub still-normal : Normal (gates (take n m))
   still-normal = rw front (w .normal)
+
+  pub still-bounds : {last : List ℕ} → Bounds (take n l) last → Bounds (take n m) last
+  still-bounds b = rw front b
 
   pushed-codes : take (j - n) (drop n m) ≡ map code made
   pushed-codes =

@@ -105,6 +105,7 @@ module _ {h : Head} {j : Judged} {s l : List ℕ} {at before n : ℕ} {g : Gate}
   pub gate-pushable : 4096 ≤ length l → Pushable l n (code g)
   gate-pushable room = record {
     room = omega (arith, w .few, gate-few, room);
+    few = omega (arith, w .few, gate-few);
     codes = w .codes;
     normal = list-normal w;
     code = code-code (omega arith) (valid-more narrow (one .0));
@@ -174,6 +175,7 @@ module _ {h : Head} {j : Judged} {s l : List ℕ} {at before total n : ℕ} {a :
     expandable = on-lines .0;
     below = on-lines .1;
     room = omega (arith, w .few, w .count, room-left, room);
+    few = omega (arith, w .few, w .count, room-left);
     codes = w .codes;
     normal = list-normal w;
   })

@@ -36,12 +36,13 @@ LoadsTo j l (loaded.Refused r i) = j ≡ turned-away r i
 unfoldable pub controls-of : Controls → List ℕ
 controls-of a = take (a .count) (a .listed)
 
--- the gate can be expanded behind the first n codes
+-- the gate can be expanded behind the first n codes, which are then at most 4,096
 pub record Addable (h : Head) (t : ℕ) (cs : List ℕ) (l : List ℕ) (n : ℕ) : Type 0 where
   pub narrow : h .lines ≤ 32
   pub expandable : Expandable (h .lines) cs t
   pub below : Below (h .lines) cs
   pub room : n + length (expansion (h .lines) cs t) ≤ length l
+  pub few : n + length (expansion (h .lines) cs t) ≤ 4096
   pub codes : AllCodes 32 (take n l)
   pub normal : Normal (gates (take n l))
 

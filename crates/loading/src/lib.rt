@@ -12,7 +12,8 @@ ghost use mathlib.Core.Bool.{false, _&&_, _||_};
 ghost use mathlib.Core.List.{[]};
 ghost use Prim.Native.Nat.{_+_, _≤_};
 ghost use lib.Dec.{eqb, leb};
-ghost use lib.ListN.{length, drop, getD};
+ghost use lib.ListN.{length, take, drop, getD};
+ghost use Rattle.reduction.specs.Bounds.{Bounds};
 ghost use Rattle.text.specs.Reading.{cut};
 ghost use Rattle.text.specs.Judging.{cascade, circuit, judge, judge-lines, read-all};
 ghost use Rattle.loading.specs.Seen.{seen-verdict, tried, over, GateVerdict, MctVerdict, HeadLineOf, CircuitLineOf, circuit-line-ahead, CascadeLineOf, cascade-line-ahead};
@@ -211,10 +212,11 @@ fn load_gates(s: &[u8], from: usize, head: Head, list: &mut [u16]) -> Loaded
     let mut at = from;
     let mut before = 0;
     let mut n = 0;
+    let mut last = [0u16; 66];
     while at < s.len() {
         match circuit_line(s, at, head, before) {
             CircuitLine::Gate(g, next) => {
-                n = reduction::push(list, n, gates::encode(g));
+                n = reduction::push(list, &mut last, n, gates::encode(g));
                 at = next;
                 before += 1;
             }
@@ -227,15 +229,17 @@ fn load_gates(s: &[u8], from: usize, head: Head, list: &mut [u16]) -> Loaded
 }
 
 // Expands an mct gate behind the first n codes, and pushes the gates of its expansion onto them.
-fn add_mct(head: Head, t: u8, a: Controls, list: &mut [u16], n: usize) -> usize
+fn add_mct(head: Head, t: u8, a: Controls, list: &mut [u16], last: &mut [u16], n: usize) -> usize
     requires { ⌜ a .count ≤ length (a .listed) ⌝ }
     requires { ⌜ Addable head t (controls-of a) (now list) n ⌝ }
+    requires { ⌜ Bounds (take n (now list)) (now last) ⌝ }
     ensures { λ r. ⌜ Added head t (controls-of a) (now (list .entry)) n r (now (list .exit)) ⌝ }
+    ensures { λ r. ⌜ Bounds (take r (now (list .exit))) (now (last .exit)) ⌝ }
 {
     let listed = a.listed;
     let k = a.count;
     let m = expansion::expand(head.lines, &listed[..k], t, list, n);
-    reduction::push_all(list, n, m)
+    reduction::push_all(list, last, n, m)
 }
 
 // Loads the lines of a cascade after line 1.
@@ -248,16 +252,17 @@ fn load_mcts(s: &[u8], from: usize, head: Head, list: &mut [u16]) -> Loaded
     let mut at = from;
     let mut before = 0;
     let mut total = 0;
-    let mut n = 0;
+    let mut kept = 0;
+    let mut last = [0u16; 66];
     while at < s.len() {
         let line = cascade_line(s, at, head, before, total);
         let answer = line.answer;
         let controls = line.controls;
         match answer {
-            MctAnswer::Target(t, next) => {
-                n = add_mct(head, t, controls, list, n);
+            MctAnswer::Target(t, after) => {
+                kept = add_mct(head, t, controls, list, &mut last, kept);
                 total += expansion::count(controls.count);
-                at = next;
+                at = after;
                 before += 1;
             }
             MctAnswer::Refused(r, l) => {
@@ -265,7 +270,7 @@ fn load_mcts(s: &[u8], from: usize, head: Head, list: &mut [u16]) -> Loaded
             }
         }
     }
-    Loaded::Accepted(head, n)
+    Loaded::Accepted(head, kept)
 }
 
 // Whether a head names 1 to 32 lines.

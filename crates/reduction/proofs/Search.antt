@@ -2,15 +2,16 @@
 -- Assumes nothing.
 use mathlib.Core.Path.{_≡_, refl, sym, ap, _∙_}
 use mathlib.Core.List.{List, [], _∷_, _++_}
-use Prim.Native.Nat.{ℕ, zero, suc, _+_, _-_, _/_, _≤_, _<_}
+use Prim.Native.Nat.{ℕ, zero, suc, _+_, _-_, _/_, _%_, _≤_, _<_}
 use native.Mathlib.Numerals.{add-one}
 use native.Mathlib.Omega.{arith}
 use native.Mathlib.Decide.{decLt}
-use lib.ListN.{length, take, drop, getD, drop-of-length-le}
-use lib.Seq.{drop-cons, drop-drop, take-suc, append-snoc, split-at, length-take-le, getD-take}
+use lib.ListN.{length, take, drop, getD, drop-of-length-le, length-drop}
+use lib.Seq.{drop-cons, drop-drop, take-suc, append-snoc, split-at, length-take-le, getD-take, getD-drop}
 use Rattle.gates.specs.declared.Gate.{Gate}
 use Rattle.gates.specs.Circuit.{Passes}
 use Rattle.gates.specs.Code.{gate, gates, Code}
+use Rattle.gates.proofs.Codes.{target-gate, slot-gate}
 use Rattle.gates.proofs.CodeLists.{gates-append}
 use Rattle.gates.proofs.Sites.{Same, Less, same-sym, less-irrefl, less-asym, passes-sym, passes-same-right, passes-self}
 use Rattle.gates.proofs.Merge.{merged}
@@ -20,6 +21,7 @@ use Rattle.gates.proofs.Scan.{push-blocked}
 use Rattle.reduction.specs.declared.Partner.{Partner}
 use Rattle.reduction.specs.declared.Partner.the-variants.{At, Nowhere}
 use Rattle.reduction.specs.Partner.{Meets, Lowest, Search, Enters}
+use Rattle.reduction.specs.Bounds.{Bounds, Start}
 use Rattle.reduction.proofs.Numbers.{one-site, site-less}
 
 -- ---- free over a part of a list
@@ -46,13 +48,6 @@ pub record Tried (l : List ℕ) (g b : ℕ) : Type 0 where
   pub none : (i : ℕ) → b ≤ i → i < length l → getD l i 0 / 4 ≡ g / 4 → ⊥
 
 module _ (l : List ℕ) (g : ℕ) where
-  tried-start : (b : ℕ) → b ≡ length l → Tried l g b
-  tried-start b e = record {
-    within = omega arith;
-    free = rw (drop-of-length-le l {i = b} (omega arith)) free-nil;
-    none = λ i h k. absurd (omega arith);
-  }
-
   tried-found : (p : ℕ) → Tried l g (suc p) → getD l p 0 / 4 ≡ g / 4 → Search l g (At p)
   unfolding Search
   tried-found p t e = record { inside = t .within; site = e; free = t .free }
@@ -80,6 +75,37 @@ module _ (l : List ℕ) (g : ℕ) where
   tried-all : Tried l g 0 → Search l g (Nowhere 0)
   unfolding Search
   tried-all t = (λ i m. t .none i (omega arith) (m .inside) (m .site), record { inside = omega arith; free = t .free; blocked = λ p e. absurd (omega arith) })
+
+-- ---- where the search starts
+
+free-all : (g : Gate) (l : List ℕ) → ((j : ℕ) → j < length l → Passes g (gate (getD l j 0))) → Free g (gates l)
+free-all g [] f = free-nil
+free-all g (a ∷ l) f = free-cons (f 0 (omega arith)) (free-all g l (λ j h. f (suc j) (omega arith)))
+
+module _ (l last : List ℕ) (g b : ℕ) (w : Bounds l last) (s : Start last (length l) g b) where
+  module _ (j : ℕ) (h : b ≤ j) (k : j < length l) where
+    past-site : getD l j 0 / 4 ≡ g / 4 → ⊥
+    past-site e =
+        let t : getD l j 0 / 132 + 1 ≡ g / 132 + 1 = omega arith in
+        let c : 33 + getD l j 0 / 4 % 33 ≡ 33 + g / 4 % 33 = ap (λ (q : ℕ). 33 + q % 33) e in
+        omega (arith, s .past .partner j (rw t at (w .target j k)) (rw c at (w .control j k)), s .beyond j h k)
+
+    past-passes : Passes (gate g) (gate (getD l j 0))
+    past-passes = record {
+      there = λ e.
+          let t : 33 + getD l j 0 / 4 % 33 ≡ 34 + g / 132 = omega (arith, target-gate g, slot-gate (getD l j 0)) in
+          omega (arith, rw t at (w .control j k), s .past .there, s .beyond j h k);
+      back = λ e.
+          let t : getD l j 0 / 132 + 1 ≡ g / 4 % 33 = omega (arith, target-gate (getD l j 0), slot-gate g) in
+          omega (arith, rw t at (w .target j k), s .past .back, s .beyond j h k);
+    }
+
+  bounds-tried : Tried l g b
+  bounds-tried = record {
+    within = s .inside;
+    free = free-all (gate g) (drop b l) (λ j h. let k : b + j < length l = omega (arith, length-drop b l) in rw (getD-drop b l j 0) (past-passes (b + j) (omega arith) k));
+    none = past-site;
+  }
 
 -- ---- the place of entry
 
@@ -154,8 +180,8 @@ pub front-at : (L : List ℕ) (n i : ℕ) → n ≤ length L → i < n → (i < 
 front-at L n i h k = (rw (length-take-le n L h) k, getD-take n L i 0 k)
 
 module _ (L : List ℕ) (n g : ℕ) (h : n ≤ length L) where
-  pub search-start : Tried (take n L) g n
-  search-start = tried-start (take n L) g n (sym (length-take-le n L h))
+  pub search-start : (last : List ℕ) (b : ℕ) → Bounds (take n L) last → Start last n g b → Tried (take n L) g b
+  search-start last b w s = let e = length-take-le n L h in bounds-tried (take n L) last g b w (rw e s)
 
   module _ (b p : ℕ) (e : b ≡ suc p) (k : b ≤ n) (t : Tried (take n L) g b) where
     pub search-found : getD L p 0 / 4 ≡ g / 4 → Search (take n L) g (At p)
@@ -185,6 +211,9 @@ module _ (L : List ℕ) (n g : ℕ) (h : n ≤ length L) where
   pub place-start : (b : ℕ) → Code 32 g → Search (take n L) g (Nowhere b) → Behind (take n L) g b
   unfolding Search
   place-start b c w = entry-start (take n L) g b (passes-self (c .valid)) (w .1)
+
+  pub place-inside : (i : ℕ) → Enters (take n L) g i → i ≤ n
+  place-inside i p = rw (length-take-le n L h) at (p .inside)
 
 -- ---- the answer of the search, by its case
 

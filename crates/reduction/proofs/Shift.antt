@@ -4,12 +4,27 @@ use mathlib.Core.List.{List, _∷_, _++_, append-assoc}
 use Prim.Native.Nat.{ℕ, suc, _+_, _-_, _≤_, _<_}
 use native.Mathlib.Omega.{arith}
 use lib.ListN.{length, take, drop, getD, set, length-drop, List·getD-append}
-use lib.Seq.{paste, paste-zero, paste-suc, drop-paste, getD-drop, getD-take, set-at, drop-cons, take-suc, append-snoc, length-take-le, length-paste-head}
+use lib.Seq.{paste, paste-zero, paste-suc, drop-paste, getD-drop, getD-take, getD-append-add, set-at, drop-cons, take-suc, append-snoc, length-take-le, length-paste-head}
 
 -- past what was pasted a list is as it was
 read-past : (L S : List ℕ) (i k m j : ℕ) → j ≡ i + k + m → i ≤ length L → k ≤ length S → getD (paste L i S k) j 0 ≡ getD L j 0
 read-past L S i k m j e h g =
     rw e (sym (getD-drop (i + k) (paste L i S k) m 0) ∙ ap (λ (x : List ℕ). getD x m 0) (drop-paste L i S k h g) ∙ getD-drop (i + k) L m 0)
+
+-- before what was pasted a list is as it was
+pub read-before : (L S : List ℕ) (i m j : ℕ) → i ≤ length L → m ≤ length S → j < i → getD (paste L i S m) j 0 ≡ getD L j 0
+read-before L S i m j h g k =
+    List·getD-append (take i L ++ take m S) (drop (i + m) L) 0 j (let e = length-paste-head L i S m h g in omega arith)
+    ∙ List·getD-append (take i L) (take m S) 0 j (let e = length-take-le i L h in omega arith)
+    ∙ getD-take i L j 0 k
+
+-- and in it stands what was pasted
+pub read-in : (L S : List ℕ) (i m k j : ℕ) → j ≡ i + k → i ≤ length L → m ≤ length S → k < m → getD (paste L i S m) j 0 ≡ getD S k 0
+read-in L S i m k j e h g l =
+    List·getD-append (take i L ++ take m S) (drop (i + m) L) 0 j (let t = length-paste-head L i S m h g in omega arith)
+    ∙ ap (λ (q : ℕ). getD (take i L ++ take m S) q 0) (e ∙ ap (λ (q : ℕ). q + k) (sym (length-take-le i L h)))
+    ∙ getD-append-add (take i L) (take m S) k 0
+    ∙ getD-take m S k 0 l
 
 -- one place to the left: nothing is shifted yet
 pub left-start : (L : List ℕ) (i : ℕ) → L ≡ paste L i (drop (i + 1) L) (i + 1 - (i + 1))
@@ -42,13 +57,6 @@ set-before L S j m x h =
     ∙ set-at (take j L) (getD L j 0) (take m S ++ D) x j (length-take-le j L (omega arith))
     ∙ sym (append-assoc (take j L) (x ∷ take m S) D)
     ∙ ap (λ (k : ℕ). take j L ++ (x ∷ take m S) ++ drop k L) e
-
--- before what was pasted a list is as it was
-read-before : (L S : List ℕ) (i m j : ℕ) → i ≤ length L → m ≤ length S → j < i → getD (paste L i S m) j 0 ≡ getD L j 0
-read-before L S i m j h g k =
-    List·getD-append (take i L ++ take m S) (drop (i + m) L) 0 j (let e = length-paste-head L i S m h g in omega arith)
-    ∙ List·getD-append (take i L) (take m S) 0 j (let e = length-take-le i L h in omega arith)
-    ∙ getD-take i L j 0 k
 
 -- one place to the right: the elements from k up to n are shifted, and the one at k - 1 is next
 pub right-start : (L : List ℕ) (n : ℕ) → L ≡ paste L (n + 1) (drop n L) (n - n)

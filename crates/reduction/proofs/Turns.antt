@@ -20,7 +20,7 @@ drop-later x y a b h e =
     let k : a + (b - a) ≡ b = omega arith in
     rw k at (sym (drop-drop (b - a) a x) ∙ ap (λ (z : List ℕ). drop (b - a) z) e ∙ drop-drop (b - a) a y)
 
-module _ (L : List ℕ) (n m : ℕ) (h : n ≤ m) (k : m ≤ length L) (cs : AllCodes 32 (take m L)) where
+module _ (L : List ℕ) (n m : ℕ) (h : n ≤ m) (k : m ≤ length L) (top : m ≤ 4096) (cs : AllCodes 32 (take m L)) where
   pub turns-start : Normal (gates (take n L)) → PushedAll L n n n L
   turns-start w =
       let z : n - n ≡ 0 = omega arith in
@@ -43,6 +43,7 @@ module _ (L : List ℕ) (n m : ℕ) (h : n ≤ m) (k : m ≤ length L) (cs : All
         let b = p .within in
         record {
           room = omega arith;
+          few = omega arith;
           codes = p .codes;
           normal = p .normal;
           code = rw next (code-in-front 32 L m i 0 j k cs);

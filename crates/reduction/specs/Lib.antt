@@ -1,2 +1,3 @@
 pub mod Partner
+pub mod Bounds
 pub mod Pushed

@@ -10,9 +10,10 @@ use Rattle.gates.proofs.Push.{push}
 use Rattle.gates.proofs.Normal.{Normal}
 use Rattle.gates.proofs.Same.{pushes}
 
--- g can be pushed onto the first n: they are gates in normal form, g is a gate, and there is room for one more
+-- g can be pushed onto the first n: they are gates in normal form, g is a gate, there is room for one more, and they are then at most 4,096
 pub record Pushable (list : List ℕ) (n g : ℕ) : Type 0 where
   pub room : n < length list
+  pub few : n < 4096
   pub codes : AllCodes 32 (take n list)
   pub normal : Normal (gates (take n list))
   pub code : Code 32 g

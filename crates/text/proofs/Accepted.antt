@@ -246,7 +246,7 @@ text-valid {k} {n} w = rw (w .whole) (made-valid k n (w .forms) (w .good))
 abbrev pub as-forms : List Controlled → List Form
 as-forms gs = map (λ g. mct (g .controls) (g .target)) gs
 
-all-proper : (k : Kind) (n : ℕ) (fs : List Form) → AllGood k n fs → AllProper fs
+pub all-proper : (k : Kind) (n : ℕ) (fs : List Form) → AllGood k n fs → AllProper fs
 all-proper k n [] g = tt
 all-proper k n (f ∷ fs) g = (g .0 .proper, all-proper k n fs (g .1))
 

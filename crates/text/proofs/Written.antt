@@ -1,18 +1,53 @@
--- The circuit text of a list is accepted, and its gates are the list. Assumes nothing.
-use mathlib.Core.Path.{_≡_, sym}
+-- What is written is read back: the circuit text of a list is accepted and its gates are the list, and the cascade text of a cascade is
+-- accepted and its circuit is the cascade's expansion. Assumes nothing.
+use mathlib.Core.Path.{_≡_, refl, sym, ap, _∙_}
 use mathlib.Core.List.{List, [], _∷_, _++_, map, append-assoc, append-nil}
 use Prim.Native.Nat.{ℕ, _+_, _≤_}
 use native.Mathlib.Omega.{arith}
-use lib.ListN.{length, length-append}
+use lib.ListN.{length, length-append, length-map}
 use borrow.Author.Tests.{le-ltb, le-leb, lt-leb, ne-eqb}
 use Rattle.gates.specs.declared.Gate.{Gate}
 use Rattle.gates.specs.declared.Gate.the-variants.{Not, Powered}
 use Rattle.gates.specs.Circuit.{Valid, valid-not, valid-powered, AllValid}
 use Rattle.meaning.specs.Pattern.{has}
+use Rattle.cascades.specs.Expansion.{_⨾_, expansion}
+use Rattle.cascades.specs.Cascade.{Controlled, expand-all}
 use Rattle.text.specs.declared.Head.{Head}
-use Rattle.text.specs.Text.{lines, gate, Proper, AllProper, circuit-text}
-use Rattle.text.specs.Judging.{circuit, accepted, controls, target, gates, belongs, most, any-from, rising, sound, first, head-rules, rules, or-else, judge-lines, judge-text, judge}
-use Rattle.text.proofs.Accepted.{formed, read-rendered}
+use Rattle.text.specs.Text.{Form, lines, gate, mct, rendered, Proper, AllProper, circuit-text, cascade-text}
+use Rattle.text.specs.Judging.{Kind, cascade, circuit, accepted, controls, target, gates, belongs, most, any-from, rising, sound, first, head-rules, rules, or-else, judge-lines, judge-text, judge}
+use Rattle.text.proofs.Accepted.{Good, AllGood, made, formed, read-rendered, all-proper, as-forms}
+
+-- ---- either text
+
+-- no form has more than 15 controls
+abbrev pub AllNarrow : List Form → Type 0
+AllNarrow [] = Unit {0}
+AllNarrow (f ∷ fs) = (length (controls f) ≤ 15) × AllNarrow fs
+
+good-kept : (k : Kind) (h : Head) (before : ℕ) (c : List Gate) (f : Form) → Good k (h .lines) f → length (controls f) ≤ 15 → before + 1 ≤ most k → length (c ++ gates (h .lines) f) ≤ 4096 → first (rules k h before c f) ≡ sound
+unfolding first rules
+good-kept k h before c f g w b l =
+    rw (g .belonging, g .inside, g .apart, g .ordered, le-ltb 15 (length (controls f)) w, g .spare, le-ltb (most k) (before + 1) b, le-ltb 4096 (length (c ++ gates (h .lines) f)) l)
+
+forms-judged : (k : Kind) (h : Head) (before : ℕ) (c : List Gate) (fs : List Form) → AllGood k (h .lines) fs → AllNarrow fs → before + length fs ≤ most k → length c + length (made (h .lines) fs) ≤ 4096
+    → judge-lines k h before c (formed fs) ≡ accepted h (c ++ made (h .lines) fs)
+unfolding judge-lines formed made or-else
+forms-judged k h before c [] g w b l = rw (append-nil c)
+forms-judged k h before c (f ∷ fs) g w b l =
+    let m = gates (h .lines) f in
+    let e = length-append c m in
+    let d = length-append m (made (h .lines) fs) in
+    let q = good-kept k h before c f (g .0) (w .0) (omega arith) (omega arith) in
+    let ih = forms-judged k h (before + 1) (c ++ m) fs (g .1) (w .1) (omega arith) (omega arith) in
+    rw (q, ih, append-assoc c m (made (h .lines) fs))
+
+-- a text whose forms keep the rules is accepted, with the circuit that they make
+text-judged : (k : Kind) (n : ℕ) (fs : List Form) → AllGood k n fs → AllNarrow fs → 1 ≤ n → n ≤ 32 → length fs ≤ most k → length (made n fs) ≤ 4096 → judge k (rendered (lines n ∷ fs)) ≡ accepted (record { lines = n }) (made n fs)
+unfolding judge judge-text formed or-else head-rules first
+text-judged k n fs g w a b m l =
+    rw (read-rendered (lines n ∷ fs) (omega arith, all-proper k n fs g), le-leb 1 n a, le-leb n 32 b, forms-judged k (record { lines = n }) 0 [] fs g w (omega arith) (omega arith))
+
+-- ---- a circuit text
 
 pub gate-proper : (n : ℕ) {g : Gate} → n ≤ 32 → Valid n g → Proper (gate g)
 gate-proper n h (valid-not k) = omega arith
@@ -22,21 +57,43 @@ pub gates-proper : (n : ℕ) (r : List Gate) → n ≤ 32 → AllValid n r → A
 gates-proper n [] h f = tt
 gates-proper n (g ∷ r) h f = (gate-proper n h (f .0), gates-proper n r h (f .1))
 
-gate-kept : (h : Head) (before : ℕ) (c : List Gate) {g : Gate} → Valid (h .lines) g → before + 1 ≤ 4096 → length (c ++ g ∷ []) ≤ 4096 → first (rules circuit h before c (gate g)) ≡ sound
-unfolding first rules belongs controls target gates any-from has rising most
-gate-kept h before c {g = Not t} (valid-not k) b l = rw (lt-leb (h .lines) t k, le-ltb 4096 (before + 1) b, le-ltb 4096 (length (c ++ Not t ∷ [])) l)
-gate-kept h before c {g = Powered p d t} (valid-powered x y z k e) b l = rw (lt-leb (h .lines) t k, lt-leb (h .lines) d z, ne-eqb t d (λ q. e (sym q)), le-ltb 4096 (before + 1) b, le-ltb 4096 (length (c ++ Powered p d t ∷ [])) l)
+gate-good : (n : ℕ) {g : Gate} → n ≤ 32 → Valid n g → Good circuit n (gate g)
+unfolding belongs controls target any-from has rising
+gate-good n h (valid-not {t} k) = record { proper = gate-proper n h (valid-not k); belonging = refl; inside = rw (lt-leb n t k); apart = refl; ordered = refl; spare = refl }
+gate-good n h (valid-powered {p} {c} {t} x y z k e) =
+    record { proper = gate-proper n h (valid-powered {p = p} x y z k e); belonging = refl; inside = rw (lt-leb n t k, lt-leb n c z); apart = rw (ne-eqb t c (λ q. e (sym q))); ordered = refl; spare = refl }
 
-gates-judged : (h : Head) (before : ℕ) (c r : List Gate) → AllValid (h .lines) r → before + length r ≤ 4096 → length c + length r ≤ 4096 → judge-lines circuit h before c (formed (map gate r)) ≡ accepted h (c ++ r)
-unfolding judge-lines formed gates or-else
-gates-judged h before c [] f b l = rw (append-nil c)
-gates-judged h before c (g ∷ r) f b l =
-    let e = length-append c (g ∷ []) in
-    let k = gate-kept h before c (f .0) (omega arith) (omega arith) in
-    let ih = gates-judged h (before + 1) (c ++ g ∷ []) r (f .1) (omega arith) (omega arith) in
-    rw (k, ih, append-assoc c (g ∷ []) r)
+gates-good : (n : ℕ) (r : List Gate) → n ≤ 32 → AllValid n r → AllGood circuit n (map gate r)
+gates-good n [] h f = tt
+gates-good n (g ∷ r) h f = (gate-good n h (f .0), gates-good n r h (f .1))
+
+gates-narrow : (r : List Gate) → AllNarrow (map gate r)
+unfolding controls
+gates-narrow [] = tt
+gates-narrow (Not t ∷ r) = (omega arith, gates-narrow r)
+gates-narrow (Powered p c t ∷ r) = (omega arith, gates-narrow r)
+
+gates-made : (n : ℕ) (r : List Gate) → made n (map gate r) ≡ r
+unfolding made gates
+gates-made n [] = refl
+gates-made n (g ∷ r) = ap (λ (l : List Gate). g ∷ l) (gates-made n r)
 
 pub judge-written : (n : ℕ) (r : List Gate) → AllValid n r → 1 ≤ n → n ≤ 32 → length r ≤ 4096 → judge circuit (circuit-text n r) ≡ accepted (record { lines = n }) r
-unfolding judge circuit-text judge-text formed or-else head-rules first
+unfolding circuit-text most
 judge-written n r f a b l =
-    rw (read-rendered (lines n ∷ map gate r) (omega arith, gates-proper n r b f), le-leb 1 n a, le-leb n 32 b, gates-judged (record { lines = n }) 0 [] r f (omega arith) (omega arith))
+    let e = gates-made n r in
+    text-judged circuit n (map gate r) (gates-good n r b f) (gates-narrow r) a b (omega (arith, l, length-map r gate)) (omega (arith, l, ap length e)) ∙ ap (accepted (record { lines = n })) e
+
+-- ---- a cascade text
+
+mcts-made : (n : ℕ) (gs : List Controlled) → made n (as-forms gs) ≡ expand-all n gs
+unfolding made gates expand-all _⨾_
+mcts-made n [] = refl
+mcts-made n (g ∷ gs) = ap (λ (l : List Gate). expansion n (g .controls) (g .target) ++ l) (mcts-made n gs)
+
+pub judge-cascade-written : (n : ℕ) (gs : List Controlled) → AllGood cascade n (as-forms gs) → AllNarrow (as-forms gs) → 1 ≤ n → n ≤ 32 → length gs ≤ 256 → length (expand-all n gs) ≤ 4096
+    → judge cascade (cascade-text n gs) ≡ accepted (record { lines = n }) (expand-all n gs)
+unfolding cascade-text most
+judge-cascade-written n gs g w a b m l =
+    let e = mcts-made n gs in
+    text-judged cascade n (as-forms gs) g w a b (omega (arith, m, length-map gs (λ (x : Controlled). mct (x .controls) (x .target)))) (omega (arith, l, ap length e)) ∙ ap (accepted (record { lines = n })) e

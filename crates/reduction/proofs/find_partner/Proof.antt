@@ -11,13 +11,19 @@ use Rattle.reduction.proofs.find_partner.Statement.{statement}
 use Rattle.reduction.proofs.find_partner.Tie as tie
 
 abbrev Inv-loop : tie.InvT-loop
-Inv-loop list n g b₀ b = (b ≤ n) × Tried (take n list) g b
+Inv-loop list last n g b₀ b = (b ≤ n) × Tried (take n list) g b
 
 abbrev μ-loop : tie.MeasureT-loop
-μ-loop list n g b₀ b = b
+μ-loop list last n g b₀ b = b
+
+start-of-search-requires : tie.Need-start-of-search-requires Inv-loop μ-loop
+start-of-search-requires c κs = let s = c .before .before in (s .pre .1 .1 .size, s .pre .1 .0)
 
 loop-holds : tie.Need-loop-holds Inv-loop μ-loop
-loop-holds c = let s = c .before in (omega arith, search-start (s .args .list .now) (s .args .n) (s .args .g) (s .pre))
+loop-holds c =
+    let s = c .before .before .before in
+    let r = c .start-of-search in
+    (r .ensures .inside, search-start (s .args .list .now) (s .args .n) (s .args .g) (s .pre .0) (s .args .last .now) (r .result) (s .pre .1 .1) (r .ensures))
 
 sub-p : tie.Need-sub-p Inv-loop μ-loop
 sub-p c = search needs
@@ -31,8 +37,8 @@ shared-slice-read-a c = search needs
 returns : tie.Need-returns Inv-loop μ-loop
 returns c =
     let l = c .before .before .before in
-    let s = l .before .before in
-    search-found (s .args .list .now) (s .args .n) (s .args .g) (s .pre) (l .loop .b) (l .loop .b - 1) (omega arith) (l .loop .inv .0) (l .loop .inv .1) (c .if1 .taken)
+    let s = l .before .before .before .before in
+    search-found (s .args .list .now) (s .args .n) (s .args .g) (s .pre .0) (l .loop .b) (l .loop .b - 1) (omega arith) (l .loop .inv .0) (l .loop .inv .1) (c .if1 .taken)
 
 passes-requires : tie.Need-passes-requires Inv-loop μ-loop
 passes-requires c κs = search needs
@@ -40,8 +46,8 @@ passes-requires c κs = search needs
 returns-2 : tie.Need-returns-2 Inv-loop μ-loop
 returns-2 c =
     let l = c .before .before .before .before .before in
-    let s = l .before .before in
-    search-blocked (s .args .list .now) (s .args .n) (s .args .g) (s .pre) (l .loop .b) (l .loop .b - 1) (omega arith) (l .loop .inv .0) (l .loop .inv .1) (c .before .before .if1 .left)
+    let s = l .before .before .before .before in
+    search-blocked (s .args .list .now) (s .args .n) (s .args .g) (s .pre .0) (l .loop .b) (l .loop .b - 1) (omega arith) (l .loop .inv .0) (l .loop .inv .1) (c .before .before .if1 .left)
     (passing-blocks (s .args .g) _ (sym (c .before .passes .ensures) ∙ not-true _ (c .if2 .taken)))
 
 loop-less : tie.Need-loop-less Inv-loop μ-loop
@@ -50,17 +56,17 @@ loop-less c = search needs
 loop-again : tie.Need-loop-again Inv-loop μ-loop
 loop-again c =
     let l = c .before .before .before .before .before in
-    let s = l .before .before in (
+    let s = l .before .before .before .before in (
       omega arith,
-      search-more (s .args .list .now) (s .args .n) (s .args .g) (s .pre) (l .loop .b) (l .loop .b - 1) (omega arith) (l .loop .inv .0) (l .loop .inv .1) (c .before .before .if1 .left)
+      search-more (s .args .list .now) (s .args .n) (s .args .g) (s .pre .0) (l .loop .b) (l .loop .b - 1) (omega arith) (l .loop .inv .0) (l .loop .inv .1) (c .before .before .if1 .left)
           (passing-passes (s .args .g) _ (sym (c .before .passes .ensures) ∙ not-false _ (c .if2 .left))),
     )
 
 returns-3 : tie.Need-returns-3 Inv-loop μ-loop
 returns-3 c =
     let l = c .before in
-    let s = l .before .before in
-    search-all (s .args .list .now) (s .args .n) (s .args .g) (s .pre) (l .loop .b) (omega arith) (l .loop .inv .1)
+    let s = l .before .before .before .before in
+    search-all (s .args .list .now) (s .args .n) (s .args .g) (s .pre .0) (l .loop .b) (omega arith) (l .loop .inv .1)
 
 pub find-partner-spec : {M : Type 1} → statement M
 find-partner-spec =
@@ -68,6 +74,7 @@ find-partner-spec =
     (tie.spec
     Inv-loop
     μ-loop
+    start-of-search-requires
     loop-holds
     sub-p
     mul-a
