@@ -1,3 +1,4 @@
+-- `jobs::answer_text` meets its contract. Assumes nothing.
 use borrow.Author.Needs.{needs}
 use mathlib.Core.Path.{_∙_}
 use native.Mathlib.Omega.{arith}
@@ -12,42 +13,33 @@ use Rattle.jobs.proofs.succeed.Reads as succeed-reads
 use Rattle.writing.proofs.measure.Reads as measure-reads
 use Rattle.writing.proofs.write_circuit.Reads as write-circuit-reads
 
--- src/lib.rt:68:39
 slice-aggregate-measure : tie.Need-slice-aggregate-measure
 slice-aggregate-measure c = search needs
 
--- src/lib.rt:68:9
 measure-requires : tie.Need-measure-requires
 measure-requires c κs = search needs
 
--- src/lib.rt:70:9
 refuse-requires : tie.Need-refuse-requires
 refuse-requires c κs = search needs
 
--- src/lib.rt:70:9
 returns : tie.Need-returns
 returns c =
     let b = c .before .before .before .before .before .args in
     let w = too-short (b .head) (b .m) (b .room) (c .before .before .measure .result) (b .t4) (now (b .answer)) (c .before .before .measure .ensures) (c .before .if1 .taken) in
     (c .refuse .ensures ∙ w .0, w .1)
 
--- src/lib.rt:72:46
 slice-aggregate-write-circuit : tie.Need-slice-aggregate-write-circuit
 slice-aggregate-write-circuit c = search needs
 
--- src/lib.rt:72:9
 write-circuit-requires : tie.Need-write-circuit-requires
 write-circuit-requires c κs = search needs
 
--- src/lib.rt:73:5
 succeed-requires : tie.Need-succeed-requires
 succeed-requires c κs = search needs
 
--- src/lib.rt:64:1
 same-length : tie.Need-same-length
 same-length c = search needs
 
--- src/lib.rt:64:1
 returns-2 : tie.Need-returns-2
 returns-2 c =
     let b = c .before .before .before .before .before .before .before .before .before .before .args in

@@ -1,3 +1,4 @@
+-- `jobs::count_loaded` meets its contract. Assumes nothing.
 use borrow.Author.Needs.{needs}
 use Rattle.jobs.proofs.count_loaded.Statement.{statement}
 use Rattle.jobs.proofs.count_loaded.Tie as tie
@@ -6,27 +7,21 @@ use Rattle.jobs.proofs.count_loaded.Lts as lts
 use Rattle.jobs.proofs.refuse.Reads as refuse-reads
 use Rattle.jobs.proofs.succeed.Reads as succeed-reads
 
--- src/lib.rt:93:29
 enum-known-loaded : tie.Need-enum-known-loaded
 enum-known-loaded c = search needs
 
--- src/lib.rt:93:35
 succeed-requires : tie.Need-succeed-requires
 succeed-requires c κs = search needs
 
--- src/lib.rt:94:25
 enum-known-loaded-2 : tie.Need-enum-known-loaded-2
 enum-known-loaded-2 c = search needs
 
--- src/lib.rt:94:37
 refuse-requires : tie.Need-refuse-requires
 refuse-requires c κs = search needs
 
--- src/lib.rt:89:1
 returns : tie.Need-returns
 returns c = rw (c .before .before .loaded .given .1) (c .succeed .ensures)
 
--- src/lib.rt:89:1
 returns-2 : tie.Need-returns-2
 returns-2 c = rw (c .before .before .loaded2 .given .1) (c .refuse .ensures)
 

@@ -1,3 +1,4 @@
+-- `jobs::limit` meets its contract. Assumes nothing.
 use native.Mathlib.Omega.{arith}
 use borrow.Author.Tests.{le-leb, lt-leb}
 use Rattle.jobs.proofs.limit.Statement.{statement}
@@ -5,11 +6,9 @@ use Rattle.jobs.proofs.limit.Tie as tie
 use Rattle.jobs.proofs.limit.Reads as reads
 use Rattle.jobs.proofs.limit.Lts as lts
 
--- src/lib.rt:23:9
 returns : tie.Need-returns
 returns c = rw (le-leb (c .before .args .number) 2 (c .if1 .taken))
 
--- src/lib.rt:19:1
 returns-2 : tie.Need-returns-2
 returns-2 c = rw (lt-leb (c .before .args .number) 2 (omega (arith, c .if1 .left)))
 

@@ -1,3 +1,4 @@
+-- `jobs::map_codes` meets its contract. Assumes nothing.
 use borrow.Author.Needs.{needs}
 use denote.Ref.{now}
 use Rattle.jobs.specs.Jobs.{mapping, takes}
@@ -9,23 +10,18 @@ use Rattle.jobs.proofs.map_codes.Lts as lts
 use Rattle.jobs.proofs.answer_loaded.Reads as answer-loaded-reads
 use Rattle.jobs.proofs.take_cascade.Reads as take-cascade-reads
 
--- src/lib.rt:131:43
 slice-aggregate-take-cascade : tie.Need-slice-aggregate-take-cascade
 slice-aggregate-take-cascade c = search needs
 
--- src/lib.rt:131:9
 take-cascade-requires : tie.Need-take-cascade-requires
 take-cascade-requires c κs = search needs
 
--- src/lib.rt:132:5
 answer-loaded-requires : tie.Need-answer-loaded-requires
 answer-loaded-requires c κs = let x = c .before .before .take-cascade in answerable _ (x .last .1 .1 .0) (x .result) (x .ensures)
 
--- src/lib.rt:127:1
 same-length : tie.Need-same-length
 same-length c = search needs
 
--- src/lib.rt:127:1
 returns : tie.Need-returns
 unfolding takes
 returns c =

@@ -1,3 +1,4 @@
+-- `jobs::quote_codes` meets its contract. Assumes nothing.
 use borrow.Author.Needs.{needs}
 use denote.Ref.{now}
 use Rattle.jobs.specs.Jobs.{takes}
@@ -9,19 +10,15 @@ use Rattle.jobs.proofs.quote_codes.Lts as lts
 use Rattle.jobs.proofs.count_loaded.Reads as count-loaded-reads
 use Rattle.jobs.proofs.take_cascade.Reads as take-cascade-reads
 
--- src/lib.rt:149:43
 slice-aggregate-take-cascade : tie.Need-slice-aggregate-take-cascade
 slice-aggregate-take-cascade c = search needs
 
--- src/lib.rt:149:9
 take-cascade-requires : tie.Need-take-cascade-requires
 take-cascade-requires c κs = search needs
 
--- src/lib.rt:150:5
 count-loaded-requires : tie.Need-count-loaded-requires
 count-loaded-requires c κs = search needs
 
--- src/lib.rt:145:1
 returns : tie.Need-returns
 unfolding takes
 returns c =

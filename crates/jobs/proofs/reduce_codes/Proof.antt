@@ -1,3 +1,4 @@
+-- `jobs::reduce_codes` meets its contract. Assumes nothing.
 use borrow.Author.Needs.{needs}
 use denote.Ref.{now}
 use Rattle.jobs.specs.Jobs.{reducing, takes}
@@ -9,23 +10,18 @@ use Rattle.jobs.proofs.reduce_codes.Lts as lts
 use Rattle.jobs.proofs.answer_loaded.Reads as answer-loaded-reads
 use Rattle.jobs.proofs.take_circuit.Reads as take-circuit-reads
 
--- src/lib.rt:140:43
 slice-aggregate-take-circuit : tie.Need-slice-aggregate-take-circuit
 slice-aggregate-take-circuit c = search needs
 
--- src/lib.rt:140:9
 take-circuit-requires : tie.Need-take-circuit-requires
 take-circuit-requires c κs = search needs
 
--- src/lib.rt:141:5
 answer-loaded-requires : tie.Need-answer-loaded-requires
 answer-loaded-requires c κs = let x = c .before .before .take-circuit in answerable _ (x .last .1 .1 .0) (x .result) (x .ensures)
 
--- src/lib.rt:136:1
 same-length : tie.Need-same-length
 same-length c = search needs
 
--- src/lib.rt:136:1
 returns : tie.Need-returns
 unfolding takes
 returns c =

@@ -1,3 +1,4 @@
+-- `jobs::refuse` meets its contract. Assumes nothing.
 use borrow.Author.Needs.{needs}
 use Rattle.jobs.specs.Handing.{refused}
 use Rattle.jobs.proofs.refuse.Statement.{statement}
@@ -7,15 +8,12 @@ use Rattle.jobs.proofs.refuse.Lts as lts
 use Rattle.jobs.proofs.limit.Reads as limit-reads
 use Rattle.text.proofs.number.Reads as number-reads
 
--- src/lib.rt:32:9
 number-requires : tie.Need-number-requires
 number-requires c κs = search needs
 
--- src/lib.rt:41:16
 limit-requires : tie.Need-limit-requires
 limit-requires c κs = search needs
 
--- src/lib.rt:29:1
 returns : tie.Need-returns
 unfolding refused
 returns c = rw (c .limit .ensures, c .before .number .ensures)

@@ -1,3 +1,4 @@
+-- `jobs::size_rules` meets its contract. Assumes nothing.
 use native.Mathlib.Omega.{arith}
 use borrow.Author.Tests.{lt-ltb, le-ltb}
 use Rattle.text.specs.Judging.{first}
@@ -7,17 +8,14 @@ use Rattle.jobs.proofs.size_rules.Tie as tie
 use Rattle.jobs.proofs.size_rules.Reads as reads
 use Rattle.jobs.proofs.size_rules.Lts as lts
 
--- src/lib.rt:104:9
 returns : tie.Need-returns
 unfolding size-rules first
 returns c = rw (lt-ltb 60000 (c .before .args .size) (c .if1 .taken))
 
--- src/lib.rt:107:9
 returns-2 : tie.Need-returns-2
 unfolding size-rules first
 returns-2 c = rw (le-ltb 60000 (c .before .before .args .size) (omega (arith, c .before .if1 .left)), lt-ltb (c .before .before .args .room) 4096 (c .if2 .taken))
 
--- src/lib.rt:100:1
 returns-3 : tie.Need-returns-3
 unfolding size-rules first
 returns-3 c = rw (le-ltb 60000 (c .before .before .args .size) (omega (arith, c .before .if1 .left)), le-ltb (c .before .before .args .room) 4096 (omega (arith, c .if2 .left)))

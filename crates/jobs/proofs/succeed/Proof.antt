@@ -1,3 +1,4 @@
+-- `jobs::succeed` meets its contract. Assumes nothing.
 use mathlib.Core.Path.{refl}
 use Rattle.jobs.specs.Handing.{succeeded}
 use Rattle.jobs.proofs.succeed.Statement.{statement}
@@ -5,7 +6,6 @@ use Rattle.jobs.proofs.succeed.Tie as tie
 use Rattle.jobs.proofs.succeed.Reads as reads
 use Rattle.jobs.proofs.succeed.Lts as lts
 
--- src/lib.rt:47:1
 returns : tie.Need-returns
 unfolding succeeded
 returns c = refl

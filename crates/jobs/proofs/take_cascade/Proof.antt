@@ -1,3 +1,4 @@
+-- `jobs::take_cascade` meets its contract. Assumes nothing.
 use borrow.Author.Needs.{needs}
 use mathlib.Core.Path.{sym, ap, _∙_, subst}
 use denote.Ref.{now}
@@ -12,15 +13,12 @@ use Rattle.jobs.proofs.take_cascade.Lts as lts
 use Rattle.jobs.proofs.size_rules.Reads as size-rules-reads
 use Rattle.loading.proofs.load_cascade.Reads as load-cascade-reads
 
--- src/lib.rt:117:33
 size-rules-requires : tie.Need-size-rules-requires
 size-rules-requires c κs = search needs
 
--- src/lib.rt:117:28
 enum-known-r : tie.Need-enum-known-r
 enum-known-r c = search needs
 
--- src/lib.rt:118:9
 returns : tie.Need-returns
 returns c =
     let b = c .before .before .before .before .before .before .args in
@@ -29,15 +27,12 @@ returns c =
 enum-told : tie.Need-enum-told
 enum-told c = search needs
 
--- src/lib.rt:120:5
 load-cascade-requires : tie.Need-load-cascade-requires
 load-cascade-requires c κs = search needs
 
--- src/lib.rt:113:1
 same-length : tie.Need-same-length
 same-length c = search needs
 
--- src/lib.rt:113:1
 returns-2 : tie.Need-returns-2
 returns-2 c =
     let b = c .before .before .before .before .before .before .before .before .before .args in
