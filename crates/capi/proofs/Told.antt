@@ -16,7 +16,7 @@ use Rattle.gates.proofs.CodeLists.{length-gates, gates-append, gates-drop, code
 use Rattle.records.specs.declared.Done.{Done}
 use Rattle.records.specs.Records.{written}
 use Rattle.jobs.specs.Jobs.{Job, Exit}
-use Rattle.jobs.specs.Handing.{Said, Hands}
+use Rattle.jobs.specs.Handing.{exit-of, Said, Hands}
 use Rattle.jobs.proofs.One.{says-one}
 use Rattle.capi.specs.Exported.{codes, not-0, numbers, three, front, stored, Tells}
 use Rattle.capi.proofs.Written.{limit-none, limit-all}
@@ -44,7 +44,7 @@ gates-stored ks count limit l =
     ∙ ap (λ (f : List Gate). f ++ gates (drop limit l)) (gates-append (take count ks) (replicate (limit - count) not-0) ∙ ap (λ (f : List Gate). gates (take count ks) ++ f) (gates-not-0 (limit - count)))
     ∙ ap (λ (f : List Gate). (gates (take count ks) ++ replicate (limit - count) (Not 0)) ++ f) (gates-drop limit l)
 
-module _ (j : Job) (s l a : List ℕ) (d : Done) (a′ : List ℕ) (all : length (d .codes) ≡ 4096) (w : Hands j s (length l) a d a′) where
+module _ (j : Job) (s l a : List ℕ) (d : Done) (a′ : List ℕ) (all : length (d .codes) ≡ 4162) (w : Hands j s (length l) a d a′) where
   abbrev l′ : List ℕ
   l′ = stored (d .codes) (d .gates) (d .limit) l
 
@@ -72,23 +72,25 @@ module _ (j : Job) (s l a : List ℕ) (d : Done) (a′ : List ℕ) (all : length
       go false p true q = let h = eqb-true (d .outcome .number) 2 q in early (omega arith) (omega arith)
       go false p false q = coded (limit-all j s a (length l) d a′ all w (eqb-false (d .outcome .number) 1 p) (eqb-false (d .outcome .number) 2 q))
 
-  pub told : Tells j s l a (three (d .outcome .number) (d .outcome .line) (d .outcome .count)) l′ a′
-  told = record {
+  tells-stored : Tells j s l a (three (d .outcome .number) (d .outcome .line) (d .outcome .count)) l′ a′
+  tells-stored = record {
     answer = d .outcome;
     outcome = refl;
     said = subst (λ (r : List Gate). Said j s (gates l) a (d .outcome) r a′) (sym (gates-stored (d .codes) (d .gates) (d .limit) l)) (w .tells (gates l) (length-gates l));
     list = listed;
   }
 
+-- what a job hands over, written into the list and the outcome
+pub told : {j : Job} {s l a : List ℕ} {d : Done} {o l′ a′ : List ℕ} → length (d .codes) ≡ 4162 → Hands j s (length l) a d a′
+    → (l′ ≡ stored (d .codes) (d .gates) (d .limit) l) × (o ≡ three (d .outcome .number) (d .outcome .line) (d .outcome .count)) → Tells j s l a o l′ a′
+told {j} {s} {l} {a} {d} {a′ = a′} all w over = rw (over .0, over .1) (tells-stored j s l a d a′ all w)
+
 -- ---- the promise settles all that is lent: whatever keeps it leaves the same outcome, the same list and the same area
 
 module _ (j : Job) (s l a : List ℕ) where
-  abbrev exit-of : {o l′ a′ : List ℕ} → Tells j s l a o l′ a′ → Exit
-  exit-of {l′ = l′} {a′} t = record { number = t .answer .number; line = t .answer .line; count = t .answer .count; list = gates l′; area = a′ }
-
   -- the exit that the job's contract allows
-  only : {o l′ a′ : List ℕ} (t : Tells j s l a o l′ a′) → exit-of t ≡ says-one j (record { text = s; list = gates l; area = a }) .0
-  only t = says-one j (record { text = s; list = gates l; area = a }) .2 (exit-of t) (t .said)
+  only : {o l′ a′ : List ℕ} (t : Tells j s l a o l′ a′) → exit-of (t .answer) (gates l′) a′ ≡ says-one j (record { text = s; list = gates l; area = a }) .0
+  only {l′ = l′} {a′} t = says-one j (record { text = s; list = gates l; area = a }) .2 (exit-of (t .answer) (gates l′) a′) (t .said)
 
   pub tells-one : {o l′ a′ p m b : List ℕ} → Tells j s l a o l′ a′ → Tells j s l a p m b → (o ≡ p) × (l′ ≡ m) × (a′ ≡ b)
   tells-one t u =

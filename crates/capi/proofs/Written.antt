@@ -1,6 +1,6 @@
 -- How many records a job writes: none where its number is 1 or 2, else all. It follows from what the job says of every list of that
 -- length. Assumes nothing.
-use mathlib.Core.Path.{_≡_, refl, sym, ap, subst, _∙_}
+use mathlib.Core.Path.{_≡_, refl, sym, ap, _∙_}
 use mathlib.Core.List.{List, [], _∷_, _++_}
 use Prim.Native.Nat.{ℕ, zero, suc, _≤_}
 use native.Mathlib.Nat.{not-suc-le-zero, le-of-suc-le-suc}
@@ -9,16 +9,15 @@ use lib.ListN.{length, drop, replicate, length-replicate}
 use Rattle.gates.specs.declared.Gate.{Gate}
 use Rattle.gates.specs.declared.Gate.the-variants.{Not}
 use Rattle.gates.specs.Reduced.{Reduced}
-use Rattle.gates.proofs.Theorem.{reduced-unique}
 use Rattle.records.specs.declared.Done.{Done}
 use Rattle.records.specs.Records.{front, finished}
 use Rattle.records.proofs.Lists.{length-front}
 use Rattle.text.specs.declared.Head.{Head}
 use Rattle.text.specs.Judging.{accepted}
-use Rattle.text.proofs.Accepted.{accepted-head, accepted-circuit}
 use Rattle.jobs.specs.Jobs.{Job, takes, Entry, Exit, filled, judged, Says}
-use Rattle.jobs.specs.Demands.{TooLong}
-use Rattle.jobs.specs.Handing.{Hands}
+use Rattle.jobs.specs.Demands.{TooLong, Demand1}
+use Rattle.jobs.specs.Handing.{exit-of, Hands}
+use Rattle.jobs.proofs.One.{accepted-one}
 use Rattle.jobs.proofs.Numbers.{Came, refused, long, succeeded, came, demand-1}
 
 -- ---- by two lists that differ in every record, how many records a front writes
@@ -58,63 +57,50 @@ success j e x s z = go (came j e x s)
     go : Came j e x → Success j e x
     go (refused r l q k) = absurd (omega (arith, demand-1 j e x s .refused r l q .2, z))
     go (long h c r w q d f k) = absurd (omega (arith, demand-1 j e x s .short .1 (unfold TooLong in (w, (h, c, r, q, d, f))), z))
-    go (succeeded h c r q d w n i k a) = record { head = h; circuit = c; reduced = r; accepts = q; is-reduced = d; list = k }
+    go (succeeded h c r n a q d w i k) = record { head = h; circuit = c; reduced = r; accepts = q; is-reduced = d; list = ap (λ (y : Exit). y .list) k }
 
 -- entries with the same text, whose lists have the same length
-module _ (j : Job) (s a : List ℕ) (l m : List Gate) (e : length l ≡ length m) (x y : Exit) where
-  abbrev with-list : List Gate → Entry
-  with-list t = record { text = s; list = t; area = a }
-
-  filled-same : (r : List Gate) → filled r l ≡ filled r m
-  unfolding filled
-  filled-same r = rw e
-
-  judged-same : judged (takes j) (with-list l) ≡ judged (takes j) (with-list m)
-  unfolding judged
-  judged-same = rw e
-
-  success-same : Success j (with-list l) x → Success j (with-list m) y → x .list ≡ y .list
-  success-same p q =
-      let v = sym (p .accepts) ∙ judged-same ∙ q .accepts in
-      let w : Reduced (p .head .lines) (p .circuit) (q .reduced) = subst (λ (c : List Gate). Reduced (p .head .lines) c (q .reduced)) (sym (accepted-circuit v)) (subst (λ (h : Head). Reduced (h .lines) (q .circuit) (q .reduced)) (sym (accepted-head v)) (q .is-reduced)) in
-      p .list ∙ ap (λ (r : List Gate). filled r l) (reduced-unique (p .head .lines) (p .is-reduced) w) ∙ filled-same (q .reduced) ∙ sym (q .list)
+success-same : (j : Job) {d e : Entry} {x y : Exit} → d .text ≡ e .text → length (d .list) ≡ length (e .list) → Success j d x → Success j e y → x .list ≡ y .list
+unfolding filled judged
+success-same j {d} {e} s k p q =
+    let v : accepted (p .head) (p .circuit) ≡ accepted (q .head) (q .circuit) = sym (p .accepts) ∙ rw (s, k) (q .accepts) in
+    p .list ∙ rw (accepted-one v (p .is-reduced) (q .is-reduced), k) (sym (q .list))
 
 -- ---- the limit
 
-module _ (j : Job) (s a : List ℕ) (room : ℕ) (d : Done) (a′ : List ℕ) (all : length (d .codes) ≡ 4096) (w : Hands j s room a d a′) where
-  abbrev entry : List Gate → Entry
-  entry l = record { text = s; list = l; area = a }
+module _ (j : Job) (s a : List ℕ) (room : ℕ) (d : Done) (a′ : List ℕ) (all : length (d .codes) ≡ 4162) (w : Hands j s room a d a′) where
+  -- a list of the gate `not t`, as it is lent and as it is left
+  abbrev entry : ℕ → Entry
+  entry t = record { text = s; list = replicate room (Not t); area = a }
 
-  abbrev exit : List Gate → Exit
-  exit l = record { number = d .outcome .number; line = d .outcome .line; count = d .outcome .count; list = finished d l; area = a′ }
+  abbrev exit : ℕ → Exit
+  exit t = exit-of (d .outcome) (finished d (replicate room (Not t))) a′
 
-  says : (t : ℕ) → Says j (entry (replicate room (Not t))) (exit (replicate room (Not t)))
+  says : (t : ℕ) → Says j (entry t) (exit t)
   says t = w .tells (replicate room (Not t)) (length-replicate room (Not t))
+
+  promised : (t : ℕ) → Demand1 j (entry t) (exit t)
+  promised t = demand-1 j (entry t) (exit t) (says t)
 
   length-written : length (front (d .codes) (d .gates) (d .limit)) ≡ d .limit
   length-written = length-front (d .codes) (d .gates) (d .limit) (w .fits .few) (omega (arith, w .fits .there, all))
 
   -- "Numbers 1 and 2 leave the gate list unchanged"
   pub limit-none : 1 ≤ d .outcome .number → d .outcome .number ≤ 2 → d .limit ≡ 0
-  limit-none h k = unwritten (front (d .codes) (d .gates) (d .limit)) (d .limit) room length-written (w .fits .within) (left 0) (left 1)
-    where
-      left : (t : ℕ) → finished d (replicate room (Not t)) ≡ replicate room (Not t)
-      left t = demand-1 j (entry (replicate room (Not t))) (exit (replicate room (Not t))) (says t) .early h k
+  limit-none h k = unwritten (front (d .codes) (d .gates) (d .limit)) (d .limit) room length-written (w .fits .within) (promised 0 .early h k) (promised 1 .early h k)
+
+  limit-same : exit 0 .list ≡ exit 1 .list → d .limit ≡ room
+  limit-same e = whole (front (d .codes) (d .gates) (d .limit)) (d .limit) room length-written (w .fits .within) e
 
   -- "the others leave `not 0` in every record"
   limit-late : 3 ≤ d .outcome .number → d .limit ≡ room
-  limit-late h = whole (front (d .codes) (d .gates) (d .limit)) (d .limit) room length-written (w .fits .within) (cleared 0 ∙ sym (cleared 1))
+  limit-late h = limit-same (cleared 0 ∙ sym (cleared 1))
     where
-      cleared : (t : ℕ) → finished d (replicate room (Not t)) ≡ replicate room (Not 0)
-      cleared t = demand-1 j (entry (replicate room (Not t))) (exit (replicate room (Not t))) (says t) .late h ∙ ap (λ (i : ℕ). replicate i (Not 0)) (length-replicate room (Not t))
+      cleared : (t : ℕ) → exit t .list ≡ replicate room (Not 0)
+      cleared t = promised t .late h ∙ ap (λ (i : ℕ). replicate i (Not 0)) (length-replicate room (Not t))
 
   limit-success : d .outcome .number ≡ 0 → d .limit ≡ room
-  limit-success z = whole (front (d .codes) (d .gates) (d .limit)) (d .limit) room length-written (w .fits .within)
-      (success-same j s a (replicate room (Not 0)) (replicate room (Not 1)) (length-replicate room (Not 0) ∙ sym (length-replicate room (Not 1)))
-      (exit (replicate room (Not 0))) (exit (replicate room (Not 1))) (succeeds 0) (succeeds 1))
-    where
-      succeeds : (t : ℕ) → Success j (entry (replicate room (Not t))) (exit (replicate room (Not t)))
-      succeeds t = success j (entry (replicate room (Not t))) (exit (replicate room (Not t))) (says t) z
+  limit-success z = limit-same (success-same j refl (length-replicate room (Not 0) ∙ sym (length-replicate room (Not 1))) (success j (entry 0) (exit 0) (says 0) z) (success j (entry 1) (exit 1) (says 1) z))
 
   pub limit-all : (d .outcome .number ≡ 1 → ⊥) → (d .outcome .number ≡ 2 → ⊥) → d .limit ≡ room
   limit-all h k = go (d .outcome .number) refl

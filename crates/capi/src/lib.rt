@@ -1,12 +1,13 @@
 // The three jobs as C functions, and one that reads a gate record: gates are numbers, and the outcome is three numbers.
 use gates::Gate;
 use records::Done;
+use text::Kind;
 ghost use mathlib.Core.Path.{_≡_};
 ghost use mathlib.Core.List.{[]};
 ghost use Prim.Native.Nat.{_≤_};
 ghost use lib.ListN.{length};
 ghost use Rattle.records.specs.Records.{Fits};
-ghost use Rattle.jobs.specs.Jobs.{mapping, reducing, quoting};
+ghost use Rattle.jobs.specs.Jobs.{mapping, reducing, quoting, writes};
 ghost use Rattle.capi.specs.Exported.{three, record-at, stored, Storable, Tells, gate-parts, record-parts};
 
 // The record of the gate `not 0`.
@@ -46,6 +47,14 @@ fn hand_over(d: Done, list: &mut [u16], outcome: &mut [u64; 3])
     *outcome = [said.number as u64, said.line as u64, said.count as u64];
 }
 
+// Answers a text of this kind with a circuit text.
+fn answer_text(kind: Kind, text: &[u8], list: &mut [u16], answer: &mut [u8], outcome: &mut [u64; 3])
+    ensures { λ _. ⌜ Tells (writes kind) (now (text .entry)) (now (list .entry)) (now (answer .entry)) (now (outcome .exit)) (now (list .exit)) (now (answer .exit)) ⌝ }
+{
+    let d = jobs::text_codes(kind, text, list.len(), answer);
+    hand_over(d, list, outcome);
+}
+
 // Maps a cascade text to a circuit text.
 #[no_mangle]
 pub extern "C" fn yilgorza_map(
@@ -56,8 +65,7 @@ pub extern "C" fn yilgorza_map(
 )
     ensures { λ _. ⌜ Tells mapping (now (text .entry)) (now (list .entry)) (now (answer .entry)) (now (outcome .exit)) (now (list .exit)) (now (answer .exit)) ⌝ }
 {
-    let d = jobs::map_codes(text, list.len(), answer);
-    hand_over(d, list, outcome);
+    answer_text(Kind::Cascade, text, list, answer, outcome);
 }
 
 // Reduces a circuit text.
@@ -70,8 +78,7 @@ pub extern "C" fn yilgorza_reduce(
 )
     ensures { λ _. ⌜ Tells reducing (now (text .entry)) (now (list .entry)) (now (answer .entry)) (now (outcome .exit)) (now (list .exit)) (now (answer .exit)) ⌝ }
 {
-    let d = jobs::reduce_codes(text, list.len(), answer);
-    hand_over(d, list, outcome);
+    answer_text(Kind::Circuit, text, list, answer, outcome);
 }
 
 // Quotes the gate count of a cascade text.

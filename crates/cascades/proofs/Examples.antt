@@ -1,11 +1,10 @@
--- Closed examples of expansions, by computation: the five gates of two controls, document 01's example on 5 lines, and the sixteen counts.
+-- Closed examples of expansions, by computation: the reduced list for two controls, document 01's example on 5 lines, and the sixteen counts.
 -- Assumes nothing.
 use mathlib.Core.Path.{_≡_, refl}
 use mathlib.Core.List.{List, [], _∷_, _++_, map}
 use Prim.Native.Nat.{ℕ, zero, suc}
 use native.Mathlib.Decide.{ℕ-discrete, decLt}
 use lib.ListN.{length}
-use Rattle.gates.specs.declared.Gate.{Gate}
 use Rattle.gates.specs.declared.Gate.the-variants.{Powered}
 use Rattle.gates.specs.Circuit.{target, slot, power, powered}
 use Rattle.gates.specs.Inverse.{inverse, inverted}
@@ -15,21 +14,14 @@ use Rattle.gates.proofs.Push.{free-dec, turn-of, turn, place, push}
 use Rattle.gates.proofs.Theorem.{nf}
 use Rattle.meaning.specs.Pattern.{has}
 use Rattle.cascades.specs.Expansion.{_⨾_, joined, spare, expand, expansion, counts}
+use Rattle.cascades.proofs.Lowest.{three-controls}
 
--- `(mct (0 1) 2)`: v 1 2; cn 0 1; vp 1 2; cn 0 1; v 0 2
-two-controls-in-order : expansion 3 (0 ∷ 1 ∷ []) 2 ≡ Powered 1 1 2 ∷ Powered 2 0 1 ∷ Powered 3 1 2 ∷ Powered 2 0 1 ∷ Powered 1 0 2 ∷ []
-unfolding expansion expand _⨾_
-two-controls-in-order = refl
-
--- its reduced list
+-- the reduced list of `(mct (0 1) 2)`
 two-controls-reduced : nf (expansion 3 (0 ∷ 1 ∷ []) 2) ≡ Powered 1 0 2 ∷ Powered 1 1 2 ∷ Powered 2 0 1 ∷ Powered 3 1 2 ∷ Powered 2 0 1 ∷ []
 unfolding expansion expand _⨾_ target slot power powered order-targets-equal order-targets order passes-dec merged free-dec turn-of turn place push nf ℕ-discrete decLt
 two-controls-reduced = refl
 
 -- 5 lines, `(mct (0 1 2) 3)`: spare 4, expansion 16, quote 14
-abbrev three-controls : List Gate
-three-controls = expansion 5 (0 ∷ 1 ∷ 2 ∷ []) 3
-
 three-controls-spare : spare 5 0 (3 ∷ 0 ∷ 1 ∷ 2 ∷ []) ≡ 4
 unfolding spare has
 three-controls-spare = refl

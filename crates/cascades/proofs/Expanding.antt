@@ -1,9 +1,8 @@
 -- Every expansion of an mct gate, with any choice of spare lines, acts as the gate does. Assumes nothing.
 use mathlib.Core.Path.{_≡_, sym}
 use mathlib.Core.Logic.{_≢_}
-use mathlib.Core.List.{List, [], _∷_, _++_}
-use Prim.Native.Nat.{ℕ, _/_}
-use lib.ListN.{length, take-append-drop}
+use mathlib.Core.List.{List, [], _∷_}
+use Prim.Native.Nat.{ℕ}
 use Rattle.gates.specs.declared.Gate.{Gate}
 use Rattle.gates.specs.Inverse.{inverse}
 use Rattle.meaning.specs.Amplitude.{doubled}
@@ -13,7 +12,7 @@ use Rattle.meaning.proofs.Flips.{mct-mct}
 use Rattle.meaning.proofs.Runs.{Acts, acts-inverse}
 use Rattle.cascades.specs.Expansion.{c0, c1, Expands, no-control, one-control, two-controls, more-controls, expansion, Expandable}
 use Rattle.cascades.specs.Cascade.{Below, OnLines}
-use Rattle.cascades.proofs.Halves.{out-cons, out-append, distinct-two, halves-on-lines, on-lines}
+use Rattle.cascades.proofs.Halves.{out-cons, out-append, distinct-two, halves-join, halves-on-lines, on-lines}
 use Rattle.cascades.proofs.Lowest.{expansion-expands}
 use Rattle.cascades.proofs.Valid.{expands-valid}
 use Rattle.cascades.proofs.Acting.{not-acts, cnot-acts, two-acts, joined-acts}
@@ -31,7 +30,7 @@ module _ (n : ℕ) where
       let bt = out-cons t b [] (at .1) in
       two-acts a b t (distinct-two a b (w .apart)) (at .0) (bt .0)
   expands-acts w (more-controls {cs} {t} {m0} {m1} s k sn out e0 e1) =
-      let e : c0 cs ++ c1 cs ≡ cs = take-append-drop (length cs / 2) cs in
+      let e = halves-join cs in
       let h = halves-on-lines n s w sn out in
       let to = out-append t (c0 cs) (c1 cs) cs e (w .other) in
       let st : s ≢ t = λ r. out-cons s t cs out .0 (sym r) in

@@ -7,6 +7,7 @@ use Prim.Native.Nat.{ℕ, _/_, _<_}
 use lib.Dec.{eqb}
 use borrow.Author.Tests.{eq-eqb, ne-eqb, eqb-false}
 use lib.ListN.{length, take-append-drop}
+use Rattle.gates.proofs.Every.{every-left, every-right, every-follows}
 use Rattle.meaning.specs.Pattern.{has, distinct}
 use Rattle.meaning.proofs.Flips.{distinct-append, has-append, neither}
 use Rattle.cascades.specs.Expansion.{c0, c1, Expandable}
@@ -29,23 +30,25 @@ pub distinct-two : (a b : ℕ) → distinct (a ∷ b ∷ []) ≡ true → a ≢ 
 unfolding distinct has
 distinct-two a b e r = let q = eq-eqb a b r in false≢true (rw q at e)
 
+-- C0 and C1, joined, are the controls
+pub halves-join : (cs : List ℕ) → c0 cs ++ c1 cs ≡ cs
+halves-join cs = take-append-drop (length cs / 2) cs
+
 module _ (n : ℕ) where
   -- ---- the smaller gates
 
   below-left : (c d : List ℕ) → Below n (c ++ d) → Below n c
   unfolding Below
-  below-left [] d b = tt
-  below-left (a ∷ c) d b = (b .0, below-left c d (b .1))
+  below-left = every-left (λ c. c < n)
 
   below-right : (c d : List ℕ) → Below n (c ++ d) → Below n d
   unfolding Below
-  below-right [] d b = b
-  below-right (a ∷ c) d b = below-right c d (b .1)
+  below-right = every-right (λ c. c < n)
 
   -- both smaller gates, on the spare line s, are on n lines
   pub halves-on-lines : (s : ℕ) {cs : List ℕ} {t : ℕ} → OnLines n cs t → s < n → has s (t ∷ cs) ≡ false → OnLines n (c0 cs) s × OnLines n (c1 cs) s
   halves-on-lines s {cs} {t} w sn out =
-      let e : c0 cs ++ c1 cs ≡ cs = take-append-drop (length cs / 2) cs in
+      let e = halves-join cs in
       let so = out-append s (c0 cs) (c1 cs) cs e (out-cons s t cs out .1) in
       let apart = distinct-append (c0 cs) (c1 cs) (ap distinct e ∙ w .apart) in
       let b : Below n (c0 cs ++ c1 cs) = rw e (w .below) in (
@@ -56,7 +59,7 @@ module _ (n : ℕ) where
   -- and each has a line to spare, the target of the larger gate
   pub halves-expandable : (s : ℕ) {cs : List ℕ} {t : ℕ} → Expandable n cs t → s < n → has s (t ∷ cs) ≡ false → Expandable n (c0 cs) s × Expandable n (c1 cs) s
   halves-expandable s {cs} {t} w sn out =
-      let e : c0 cs ++ c1 cs ≡ cs = take-append-drop (length cs / 2) cs in
+      let e = halves-join cs in
       let named = out-cons s t cs out in
       let so = out-append s (c0 cs) (c1 cs) cs e (named .1) in
       let to = out-append t (c0 cs) (c1 cs) cs e (w .other) in
@@ -73,5 +76,4 @@ module _ (n : ℕ) where
 
   pub all-on-lines : (gs : List Controlled) → AllExpandable n gs → AllOnLines n gs
   unfolding AllExpandable AllOnLines
-  all-on-lines [] w = tt
-  all-on-lines (g ∷ gs) w = (on-lines (w .0) (w .1), all-on-lines gs (w .2))
+  all-on-lines = every-follows _ _ (λ g w. on-lines (w .0) (w .1))

@@ -1,4 +1,5 @@
--- The rule of the lowest line is one choice of spare lines, for every gate that has a line to spare. Assumes nothing.
+-- The rule of the lowest line: expansions on closed gates, by computation; and that the rule is one choice of spare lines, for every gate that
+-- has a line to spare. Assumes nothing.
 use mathlib.Core.Path.{_≡_, refl}
 use mathlib.Core.Logic.{_≢_}
 use mathlib.Core.Bool.{Bool, true, false, cond}
@@ -7,10 +8,43 @@ use Prim.Native.Nat.{ℕ, zero, suc, _+_, _/_, _≤_, _<_}
 use native.Mathlib.Omega.{arith}
 use native.Mathlib.Decide.{ℕ-discrete}
 use lib.ListN.{length, length-take, length-drop}
+use Rattle.gates.specs.declared.Gate.{Gate}
+use Rattle.gates.specs.declared.Gate.the-variants.{Not, Powered}
+use Rattle.gates.specs.Inverse.{inverse, inverted}
 use Rattle.meaning.specs.Pattern.{has}
-use Rattle.cascades.specs.Expansion.{c0, c1, Expands, no-control, one-control, two-controls, more-controls, spare, expand, expansion, Expandable}
+use Rattle.cascades.specs.Expansion.{_⨾_, joined, c0, c1, Expands, no-control, one-control, two-controls, more-controls, spare, expand, expansion, Expandable}
 use Rattle.cascades.specs.Cascade.{Controlled, expand-all, ExpandsAll, no-gate, next-gate, AllExpandable}
 use Rattle.cascades.proofs.Halves.{halves-expandable}
+
+-- ---- closed gates
+
+-- of 6 lines `(mct (0 1 2) 3)` names neither 4 nor 5: its spare line is 4
+lower-of-two : spare 6 0 (3 ∷ 0 ∷ 1 ∷ 2 ∷ []) ≡ 4
+unfolding spare has
+lower-of-two = refl
+
+-- `(mct (0 1) 2)`: v 1 2; cn 0 1; vp 1 2; cn 0 1; v 0 2
+two-controls-in-order : expansion 3 (0 ∷ 1 ∷ []) 2 ≡ Powered 1 1 2 ∷ Powered 2 0 1 ∷ Powered 3 1 2 ∷ Powered 2 0 1 ∷ Powered 1 0 2 ∷ []
+unfolding expansion expand _⨾_
+two-controls-in-order = refl
+
+-- `(mct (0 1 2) 3)` on 5 lines, with the spare line 4
+abbrev pub three-controls : List Gate
+three-controls = expansion 5 (0 ∷ 1 ∷ 2 ∷ []) 3
+
+-- v 4 3; M0, which is cn 0 4; vp 4 3; M1, the five gates for 1, 2 and 4; v 4 3; M2; vp 4 3; M3
+three-controls-in-order : three-controls ≡
+    Powered 1 4 3 ∷ Powered 2 0 4 ∷ Powered 3 4 3 ∷ Powered 1 2 4 ∷ Powered 2 1 2 ∷ Powered 3 2 4 ∷ Powered 2 1 2 ∷ Powered 1 1 4
+    ∷ Powered 1 4 3 ∷ Powered 2 0 4 ∷ Powered 3 4 3 ∷ Powered 3 1 4 ∷ Powered 2 1 2 ∷ Powered 1 2 4 ∷ Powered 2 1 2 ∷ Powered 3 2 4 ∷ []
+unfolding expansion expand spare has _⨾_ joined inverse inverted
+three-controls-in-order = refl
+
+-- two gates in text order: `(mct (0) 1)` and `(mct () 0)`
+two-gates-in-order : expand-all 2 (record { controls = 0 ∷ []; target = 1 } ∷ record { controls = []; target = 0 } ∷ []) ≡ Powered 2 0 1 ∷ Not 0 ∷ []
+unfolding expand-all expansion expand _⨾_
+two-gates-in-order = refl
+
+-- ---- the lowest line
 
 -- every lower line is named: `spare` is "the lowest one that this gate names neither as control nor as target"
 pub spare-lowest : (m i : ℕ) (l : List ℕ) (j : ℕ) → i ≤ j → j < spare m i l → has j l ≡ true
@@ -58,4 +92,4 @@ module _ (n : ℕ) where
   pub expand-all-expands : (gs : List Controlled) → AllExpandable n gs → ExpandsAll n gs (expand-all n gs)
   unfolding expand-all AllExpandable
   expand-all-expands [] w = no-gate
-  expand-all-expands (g ∷ gs) w = next-gate (expansion-expands (g .controls) (g .target) (w .0)) (expand-all-expands gs (w .2))
+  expand-all-expands (g ∷ gs) w = next-gate (expansion-expands (g .controls) (g .target) (w .0 .0)) (expand-all-expands gs (w .1))

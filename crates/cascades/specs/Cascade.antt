@@ -5,6 +5,7 @@ use mathlib.Core.Logic.{_≢_}
 use mathlib.Core.Bool.{true, false}
 use mathlib.Core.List.{List, [], _∷_}
 use Prim.Native.Nat.{ℕ, _<_}
+use Rattle.gates.specs.Every.{Every}
 use Rattle.gates.specs.declared.Gate.{Gate}
 use Rattle.meaning.specs.Amplitude.{one, nought, doubled}
 use Rattle.meaning.specs.Pattern.{Pattern, mct, has, distinct}
@@ -40,8 +41,7 @@ pub data ExpandsAll (n : ℕ) : List Controlled → List Gate → Type 0 where
 
 -- each line of the list is below n
 unfoldable pub Below : ℕ → List ℕ → Type 0
-Below n [] = Unit {0}
-Below n (c ∷ cs) = (c < n) × Below n cs
+Below n = Every (λ c. c < n)
 
 -- an mct gate on n lines: its controls and its target are different lines of the n
 pub record OnLines (n : ℕ) (cs : List ℕ) (t : ℕ) : Type 0 where
@@ -52,13 +52,11 @@ pub record OnLines (n : ℕ) (cs : List ℕ) (t : ℕ) : Type 0 where
 
 -- each gate of the cascade is on n lines
 unfoldable pub AllOnLines : ℕ → List Controlled → Type 0
-AllOnLines n [] = Unit {0}
-AllOnLines n (g ∷ gs) = OnLines n (g .controls) (g .target) × AllOnLines n gs
+AllOnLines n = Every (λ g. OnLines n (g .controls) (g .target))
 
 -- each gate of the cascade is on n lines, with a spare line where it needs one
 unfoldable pub AllExpandable : ℕ → List Controlled → Type 0
-AllExpandable n [] = Unit {0}
-AllExpandable n (g ∷ gs) = Expandable n (g .controls) (g .target) × Below n (g .controls) × AllExpandable n gs
+AllExpandable n = Every (λ g. Expandable n (g .controls) (g .target) × Below n (g .controls))
 
 -- ---- what is promised of a circuit made from a cascade
 

@@ -12,23 +12,17 @@ use Rattle.gates.specs.declared.Gate.the-variants.{Not, Powered}
 use Rattle.gates.specs.Circuit.{done}
 use Rattle.records.specs.declared.Outcome.{Outcome}
 use Rattle.text.specs.declared.Head.{Head}
-use Rattle.text.specs.declared.Refusal.the-variants.{ShortAnswer}
-use Rattle.text.specs.Refusals.{number-of}
 use Rattle.text.specs.Text.{lines, gate, bytes, digits, one, two, word, render, rendered, circuit-text}
 use Rattle.text.specs.Judging.{Judged, turned-away, accepted}
-use Rattle.jobs.specs.Jobs.{Job, mapping, reducing, quoting, takes, Entry, Exit, refusal, judged, answered, Says}
-use Rattle.jobs.specs.Demands.{Writes, TooLong}
+use Rattle.jobs.specs.Jobs.{Job, takes, Output, as-text, as-count, output, put-out, Entry, Exit, refusal, judged, answered, Says}
+use Rattle.jobs.specs.Demands.{IsText, Writes, TooLong}
 use Rattle.jobs.specs.Handing.{Own}
 use Rattle.jobs.proofs.One.{judged-accepted}
-use Rattle.jobs.proofs.Demands.{says-accepted, Wrote, longer, holds, wrote}
+use Rattle.jobs.proofs.Demands.{says-accepted, ten, Wrote, longer, holds, wrote}
 use Rattle.jobs.proofs.Numbers.{demand-1}
 use Rattle.console.specs.Output.{Holds}
 
 -- ---- the count lies within the area
-
-ten : number-of ShortAnswer ≡ 10
-unfolding number-of
-ten = refl
 
 module _ (j : Job) (e : Entry) (x : Exit) (s : Says j e x) (z : x .number ≡ 0) where
   -- of a text that was written
@@ -38,18 +32,17 @@ module _ (j : Job) (e : Entry) (x : Exit) (s : Says j e x) (z : x .number ≡ 0)
   wrote-within r t (holds h q) = omega (arith, h, ap (λ (y : Exit). y .count) q, demand-1 j e x s .lengths .1)
 
 -- by the reduced list of an accepted text
-answered-within : (j : Job) (e : Entry) (h : Head) (r : List Gate) (x : Exit) → Writes j → Says j e x → x .number ≡ 0 → x ≡ answered j e h r → x .count ≤ length (x .area)
-unfolding Writes answered
-answered-within mapping e h r x w s z q = let t = circuit-text (h .lines) r in wrote-within mapping e x s z r t (subst (Wrote e r t) (sym q) (wrote e r t))
-answered-within reducing e h r x w s z q = let t = circuit-text (h .lines) r in wrote-within reducing e x s z r t (subst (Wrote e r t) (sym q) (wrote e r t))
-answered-within quoting e h r x w s z q = elim w [ ]
+answered-within : (j : Job) (e : Entry) (h : Head) (r : List Gate) (x : Exit) (o : Output) → IsText o → Says j e x → x .number ≡ 0 → x ≡ put-out o e h r → x .count ≤ length (x .area)
+answered-within j e h r x as-text w s z q = let t = circuit-text (h .lines) r in wrote-within j e x s z r t (subst (Wrote e r t) (sym q) (wrote e r t))
+answered-within j e h r x as-count w s z q = elim w [ ]
 
 pub within : (j : Job) (e : Entry) (x : Exit) → Writes j → Says j e x → x .number ≡ 0 → x .count ≤ length (x .area)
+unfolding Writes answered
 within j e x w s z = go (judged (takes j) e) refl
   where
     go : (d : Judged) → judged (takes j) e ≡ d → x .count ≤ length (x .area)
     go (turned-away r l) q = absurd (omega (arith, z, demand-1 j e x s .refused r l q .2))
-    go (accepted h c) q = let a = says-accepted j e x s q in answered-within j e h (a .0) x w s z (a .2)
+    go (accepted h c) q = let a = says-accepted j e x s q in answered-within j e h (a .0) x (output j) w s z (a .2)
 
 -- the programs' area, after a job with a gate list of its own
 pub own-within : (j : Job) (s a : List ℕ) (o : Outcome) (b : List ℕ) → Writes j → Own j s a o b → Holds o b

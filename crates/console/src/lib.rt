@@ -1,9 +1,16 @@
-// What the three programs share: reading standard input, and writing an answer or a refusal.
+// The three programs: standard input read, a job done on it, and its answer or refusal written.
 ghost use Prim.Native.Nat.{_≤_};
 ghost use lib.ListN.{length};
 ghost use Rattle.console.specs.Input.{Within};
-ghost use Rattle.console.specs.Output.{Holds};
+ghost use Rattle.console.specs.Output.{Holds, Printable};
 use records::Outcome;
+
+// The job of a program.
+pub enum Job {
+    Map,
+    Reduce,
+    Quote,
+}
 
 // How many bytes of standard input stand at the front of the buffer; or the input cannot be read.
 pub enum Input {
@@ -24,7 +31,7 @@ fn read_more(buffer: &mut [u8], n: usize) -> Input
 }
 
 // Reads until the buffer is full or the input ends. Each turn that goes on takes a byte at least.
-pub fn read_input(buffer: &mut [u8]) -> Input
+fn read_input(buffer: &mut [u8]) -> Input
     ensures { λ r. ⌜ Within 0 (length (now (buffer .exit))) r ⌝ }
 {
     let size = buffer.len();
@@ -42,7 +49,7 @@ pub fn read_input(buffer: &mut [u8]) -> Input
 }
 
 // Says that the input cannot be read.
-pub fn tell_unreadable() {
+fn tell_unreadable() {
     io::write_all(libc::STDERR_FILENO, b"standard input cannot be read\n");
 }
 
@@ -63,7 +70,7 @@ fn print_refusal(number: u8, line: usize) {
 }
 
 // Writes the answer text of map or reduce, or the refusal.
-pub fn print_text(outcome: Outcome, answer: &[u8])
+fn print_text(outcome: Outcome, answer: &[u8])
     requires { ⌜ Holds outcome (now answer) ⌝ }
 {
     if outcome.number != 0 {
@@ -74,7 +81,7 @@ pub fn print_text(outcome: Outcome, answer: &[u8])
 }
 
 // Writes `(quote c)`, or the refusal.
-pub fn print_quote(outcome: Outcome) {
+fn print_quote(outcome: Outcome) {
     if outcome.number != 0 {
         print_refusal(outcome.number, outcome.line);
         return;
@@ -82,4 +89,39 @@ pub fn print_quote(outcome: Outcome) {
     let mut out = [0u8; 64];
     let n = writing::write_quote(outcome.count, &mut out);
     print(&out, n);
+}
+
+// Writes the answer of a job, or the refusal.
+fn print_answer(job: Job, outcome: Outcome, answer: &[u8])
+    requires { ⌜ Printable job outcome (now answer) ⌝ }
+{
+    match job {
+        Job::Map => print_text(outcome, answer),
+        Job::Reduce => print_text(outcome, answer),
+        Job::Quote => print_quote(outcome),
+    }
+}
+
+// Does a job on a text, with a gate list of its own.
+fn answer_of(job: Job, text: &[u8], answer: &mut [u8]) -> Outcome
+    ensures { λ r. ⌜ Printable job r (now (answer .exit)) ⌝ }
+{
+    match job {
+        Job::Map => jobs::map_text(text, answer),
+        Job::Reduce => jobs::reduce_text(text, answer),
+        Job::Quote => jobs::quote_text(text),
+    }
+}
+
+// A program: does a job on the text on standard input. The buffer takes one byte more than a text may have. The answer area takes the longest
+// answer: 11 bytes for line 1 and for each of 4,096 gates.
+pub fn run(job: Job) {
+    let mut buffer = [0u8; 60001];
+    let Input::Bytes(n) = read_input(&mut buffer) else {
+        tell_unreadable();
+        return;
+    };
+    let mut answer = [0u8; 45067];
+    let outcome = answer_of(job, &buffer[..n], &mut answer);
+    print_answer(job, outcome, &answer);
 }

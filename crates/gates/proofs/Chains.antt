@@ -1,10 +1,19 @@
--- Chains of steps: links are symmetric, transitive and keep circuits valid, and a chain between two circuits is one between them with the
--- same gates put before and after both. Assumes nothing.
+-- Chains of steps: an example of a step backwards; links are symmetric, transitive and keep circuits valid; and a chain between two circuits is
+-- one between them with the same gates put before and after both. Assumes nothing.
 use mathlib.Core.List.{List, [], _∷_, _++_}
 use Prim.Native.Nat.{ℕ}
+use native.Mathlib.Omega.{arith}
 use Rattle.gates.specs.declared.Gate.{Gate}
-use Rattle.gates.specs.Circuit.{Valid, AllValid, Step, step, Linked, done, forth, back, Reaches, stop, more}
+use Rattle.gates.specs.declared.Gate.the-variants.{Not}
+use Rattle.gates.specs.Circuit.{Valid, valid-not, AllValid, cancel, Step, step, Linked, done, forth, back, Reaches, stop, more}
 use Rattle.gates.proofs.Reach.{step-cons, step-append, step-all-valid}
+
+-- two NOTs on one line vanish, and backwards they come of no gates
+vanish : Step 1 (Not 0 ∷ Not 0 ∷ []) []
+vanish = let w : Valid 1 (Not 0) = valid-not {t = 0} (omega arith) in step [] [] (cancel 0) (w, (w, tt)) tt
+
+put-in : Linked 1 [] (Not 0 ∷ Not 0 ∷ [])
+put-in = back vanish done
 
 module _ {n : ℕ} where
   -- ---- from link to link

@@ -10,6 +10,7 @@ use Rattle.gates.specs.declared.Gate.{Gate}
 use Rattle.gates.specs.Circuit.{Valid, valid-not, valid-powered, AllValid}
 use Rattle.gates.specs.Order.{_≼_, none, less, same}
 use Rattle.gates.specs.Code.{code, gate, gates, Code, AllCodes}
+use Rattle.gates.proofs.Every.{every-append, every-left, every-right, every-take, every-drop, every-set, every-at, every-follows}
 use Rattle.gates.proofs.Codes.{gate-code, code-code, code-injective, earlier-code}
 
 -- ---- the gates of a list, part by part
@@ -61,36 +62,25 @@ module _ (n : ℕ) where
   -- ---- parts of lists of numbers
 
   pub all-codes-append : (l m : List ℕ) → AllCodes n l → AllCodes n m → AllCodes n (l ++ m)
-  all-codes-append [] m h k = k
-  all-codes-append (j ∷ l) m h k = (h .0, all-codes-append l m (h .1) k)
+  all-codes-append = every-append (Code n)
 
   pub all-codes-left : (l m : List ℕ) → AllCodes n (l ++ m) → AllCodes n l
-  all-codes-left [] m h = tt
-  all-codes-left (j ∷ l) m h = (h .0, all-codes-left l m (h .1))
+  all-codes-left = every-left (Code n)
 
   pub all-codes-right : (l m : List ℕ) → AllCodes n (l ++ m) → AllCodes n m
-  all-codes-right [] m h = h
-  all-codes-right (j ∷ l) m h = all-codes-right l m (h .1)
+  all-codes-right = every-right (Code n)
 
   pub all-codes-take : (i : ℕ) (l : List ℕ) → AllCodes n l → AllCodes n (take i l)
-  all-codes-take zero l h = tt
-  all-codes-take (suc i) [] h = tt
-  all-codes-take (suc i) (k ∷ l) h = (h .0, all-codes-take i l (h .1))
+  all-codes-take = every-take (Code n)
 
   pub all-codes-drop : (i : ℕ) (l : List ℕ) → AllCodes n l → AllCodes n (drop i l)
-  all-codes-drop zero l h = h
-  all-codes-drop (suc i) [] h = tt
-  all-codes-drop (suc i) (k ∷ l) h = all-codes-drop i l (h .1)
+  all-codes-drop = every-drop (Code n)
 
   pub all-codes-set : (l : List ℕ) (i k : ℕ) → AllCodes n l → Code n k → AllCodes n (set l i k)
-  all-codes-set [] i k h w = tt
-  all-codes-set (j ∷ l) zero k h w = (w, h .1)
-  all-codes-set (j ∷ l) (suc i) k h w = (h .0, all-codes-set l i k (h .1) w)
+  all-codes-set = every-set (Code n)
 
   pub code-at : (l : List ℕ) (i d : ℕ) → i < length l → AllCodes n l → Code n (getD l i d)
-  code-at [] i d b h = absurd (omega arith)
-  code-at (k ∷ l) zero d b h = h .0
-  code-at (k ∷ l) (suc i) d b h = code-at l i d (omega arith) (h .1)
+  code-at = every-at (Code n)
 
   -- one of the first m
   pub code-in-front : (l : List ℕ) (m i d : ℕ) → i < m → m ≤ length l → AllCodes n (take m l) → Code n (getD l i d)
@@ -107,12 +97,10 @@ code-more h w = record { valid = valid-more h (w .valid); exact = w .exact }
 
 module _ (n m : ℕ) where
   pub all-valid-more : (c : List Gate) → n ≤ m → AllValid n c → AllValid m c
-  all-valid-more [] h f = tt
-  all-valid-more (g ∷ c) h f = (valid-more h (f .0), all-valid-more c h (f .1))
+  all-valid-more c h = every-follows (Valid n) (Valid m) (λ g. valid-more h) c
 
   pub all-codes-more : (l : List ℕ) → n ≤ m → AllCodes n l → AllCodes m l
-  all-codes-more [] h f = tt
-  all-codes-more (k ∷ l) h f = (code-more h (f .0), all-codes-more l h (f .1))
+  all-codes-more l h = every-follows (Code n) (Code m) (λ k. code-more h) l
 
 -- ---- dictionary order
 

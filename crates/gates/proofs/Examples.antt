@@ -8,9 +8,11 @@ use native.Mathlib.Decide.{ℕ-discrete, decLt}
 use native.Mathlib.Omega.{arith}
 use Rattle.gates.specs.declared.Gate.{Gate}
 use Rattle.gates.specs.declared.Gate.the-variants.{Not, Powered}
+use Rattle.gates.specs.Every.{Every}
 use Rattle.gates.specs.Circuit.{target, slot, power, powered, Valid, valid-not, valid-powered, AllValid}
 use Rattle.gates.specs.Reduced.{Reduced}
 use Rattle.gates.specs.Code.{code, assembled, gate}
+use Rattle.gates.proofs.Every.{every-follows}
 use Rattle.gates.proofs.Sites.{order-targets-equal, order-targets, order, passes-dec}
 use Rattle.gates.proofs.Merge.{merged}
 use Rattle.gates.proofs.Push.{free-dec, turn-of, turn, place, push}
@@ -46,34 +48,29 @@ Fits (Not t) = t < 3
 Fits (Powered p c t) = (1 ≤ p) × (p ≤ 3) × (c < 3) × (t < 3) × (c ≢ t)
 
 abbrev AllFit : List Gate → Type 0
-AllFit [] = Unit {0}
-AllFit (g ∷ c) = Fits g × AllFit c
+AllFit = Every Fits
 
 valid : (g : Gate) → Fits g → Valid 3 g
 valid (Not t) h = valid-not h
 valid (Powered p c t) h = valid-powered (h .0) (h .1) (h .2) (h .3) (h .4)
 
 all-valid : (c : List Gate) → AllFit c → AllValid 3 c
-all-valid [] h = tt
-all-valid (g ∷ c) h = (valid g (h .0), all-valid c (h .1))
+all-valid = every-follows Fits (Valid 3) valid
 
 -- each row's second is the reduced list of its first
 abbrev pub AllReduced : List (List Gate × List Gate) → Type 0
-AllReduced [] = Unit {0}
-AllReduced (row ∷ t) = Reduced 3 (row .0) (row .1) × AllReduced t
+AllReduced = Every (λ row. Reduced 3 (row .0) (row .1))
 
 -- each row's first is valid and its second is computed from it
 abbrev AllComputed : List (List Gate × List Gate) → Type 0
-AllComputed [] = Unit {0}
-AllComputed (row ∷ t) = AllFit (row .0) × (nf (row .0) ≡ row .1) × AllComputed t
+AllComputed = Every (λ row. AllFit (row .0) × (nf (row .0) ≡ row .1))
 
 all-reduced : (t : List (List Gate × List Gate)) → AllComputed t → AllReduced t
-all-reduced [] h = tt
-all-reduced (row ∷ t) h = (rw (h .1) at (nf-reduced 3 (row .0) (all-valid (row .0) (h .0))), all-reduced t (h .2))
+all-reduced = every-follows _ _ (λ row h. rw (h .1) at (nf-reduced 3 (row .0) (all-valid (row .0) (h .0))))
 
 pub starred-examples : AllReduced table
 unfolding target slot power powered order-targets-equal order-targets order passes-dec merged free-dec turn-of turn place push nf ℕ-discrete decLt
-starred-examples = all-reduced table (omega arith, refl, (omega arith, refl, (omega arith, refl, (omega arith, refl, (omega arith, refl, (omega arith, refl, (omega arith, refl, tt)))))))
+starred-examples = all-reduced table ((omega arith, refl), ((omega arith, refl), ((omega arith, refl), ((omega arith, refl), ((omega arith, refl), ((omega arith, refl), ((omega arith, refl), tt)))))))
 
 -- ---- numbers
 

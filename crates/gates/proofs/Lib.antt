@@ -1,3 +1,5 @@
+-- The laws and theorems of this crate, in reading order.
+pub mod Every
 pub mod Sites
 pub mod Merge
 pub mod Push

@@ -114,6 +114,19 @@ triple {a = a} {g} {h} s t x y z = triple-alike (alike a g s) (alike g h t) x y 
 
 -- ---- the merge is a step, and does not mind which of the two comes first
 
+-- document 01's examples: two v are a cn, a cn and a v are a vp, a v and a vp are none
+v-and-v : Rewrite (Powered 1 0 1 ∷ Powered 1 0 1 ∷ []) (Powered 2 0 1 ∷ [])
+unfolding powered
+v-and-v = merge 1 1 0 1
+
+cn-and-v : Rewrite (Powered 2 0 1 ∷ Powered 1 0 1 ∷ []) (Powered 3 0 1 ∷ [])
+unfolding powered
+cn-and-v = merge 2 1 0 1
+
+v-and-vp : Rewrite (Powered 1 0 1 ∷ Powered 3 0 1 ∷ []) []
+unfolding powered
+v-and-vp = merge 1 3 0 1
+
 rewrite-alike : {a g : Gate} → Alike a g → Rewrite (a ∷ g ∷ []) (merged a g)
 unfolding merged power
 rewrite-alike (nots t) = cancel t

@@ -4,6 +4,7 @@ use mathlib.Core.List.{List, [], _∷_, _++_, append-nil, append-assoc}
 use Prim.Native.Nat.{ℕ}
 use Rattle.gates.specs.declared.Gate.{Gate}
 use Rattle.gates.specs.Circuit.{Valid, AllValid, pass, Step, step, Reaches, stop, more}
+use Rattle.gates.proofs.Every.{every-append, every-left, every-right}
 use Rattle.gates.proofs.Sites.{passes-sym}
 use Rattle.gates.proofs.Merge.{merged, merged-rewrite, all-valid-merged}
 use Rattle.gates.proofs.Push.{Free, free-nil, free-cons, Turn, meets, enters, stays, turn, push, push-nil, push-meets, push-enters, push-stays}
@@ -13,16 +14,13 @@ module _ (n : ℕ) where
   -- ---- valid circuits, joined and split
 
   pub all-valid-append : (c e : List Gate) → AllValid n c → AllValid n e → AllValid n (c ++ e)
-  all-valid-append [] e f h = h
-  all-valid-append (g ∷ c) e f h = (f .0, all-valid-append c e (f .1) h)
+  all-valid-append = every-append (Valid n)
 
   pub all-valid-left : (c e : List Gate) → AllValid n (c ++ e) → AllValid n c
-  all-valid-left [] e f = tt
-  all-valid-left (g ∷ c) e f = (f .0, all-valid-left c e (f .1))
+  all-valid-left = every-left (Valid n)
 
   pub all-valid-right : (c e : List Gate) → AllValid n (c ++ e) → AllValid n e
-  all-valid-right [] e f = f
-  all-valid-right (g ∷ c) e f = all-valid-right c e (f .1)
+  all-valid-right = every-right (Valid n)
 
   -- ---- steps with gates before and after
 

@@ -1,10 +1,11 @@
--- The site of a gate is its target and its slot: when two gates have one site, the order of sites, and that passing depends on sites alone.
--- Assumes nothing.
+-- The site of a gate is its target and its slot: when two gates have one site, the order of sites, and that passing depends on sites alone;
+-- document 01's two examples of passing. Assumes nothing.
 use mathlib.Core.Path.{_≡_, refl}
 use Prim.Native.Nat.{ℕ, suc, _<_}
 use native.Mathlib.Omega.{arith}
 use native.Mathlib.Decide.{ℕ-discrete, decLt}
 use Rattle.gates.specs.declared.Gate.{Gate}
+use Rattle.gates.specs.declared.Gate.the-variants.{Powered}
 use Rattle.gates.specs.Circuit.{target, slot, Passes, Valid, valid-not, valid-powered}
 
 -- g and h have one site
@@ -67,6 +68,16 @@ unfoldable pub order : (g h : Gate) → Order g h
 order g h = order-targets (decLt (target g) (target h)) (decLt (target h) (target g))
 
 -- ---- passing
+
+-- document 01, "Wrong turns": `cn 0 1` doesn't pass `cn 1 2`, though they share no target
+share-no-target : Passes (Powered 2 0 1) (Powered 2 1 2) → ⊥
+unfolding target slot
+share-no-target p = omega arith
+
+-- and `v 0 2` and `v 1 2` do pass, though they have one target
+share-one-target : Passes (Powered 1 0 2) (Powered 1 1 2)
+unfolding target slot
+share-one-target = omega arith
 
 pub passes-sym : {g h : Gate} → Passes g h → Passes h g
 passes-sym p = omega arith

@@ -5,6 +5,7 @@ use mathlib.Core.List.{List, [], _∷_, _++_}
 use Prim.Native.Nat.{ℕ, zero, suc, _+_, _%_, _≤_, _<_}
 use Rattle.gates.specs.declared.Gate.{Gate}
 use Rattle.gates.specs.declared.Gate.the-variants.{Not, Powered}
+use Rattle.gates.specs.Every.{Every}
 
 -- ---- gates
 
@@ -30,8 +31,7 @@ pub data Valid (n : ℕ) : Gate → Type 0 where
 
 -- a circuit on n lines: each of its gates is valid
 abbrev pub AllValid : ℕ → List Gate → Type 0
-AllValid n [] = Unit {0}
-AllValid n (g ∷ c) = Valid n g × AllValid n c
+AllValid n = Every (Valid n)
 
 -- ---- steps
 

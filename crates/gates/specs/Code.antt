@@ -1,10 +1,11 @@
 -- A gate as a number, for code that works on slices of numbers: (target · 33 + slot) · 4 + power. The order of the numbers is document 01's
 -- order of gates, and number / 4 is one number for each target and control. Assumes nothing.
 use mathlib.Core.Path.{_≡_}
-use mathlib.Core.List.{List, [], _∷_, map}
+use mathlib.Core.List.{List, map}
 use Prim.Native.Nat.{ℕ, zero, suc, _+_, _*_, _/_, _%_}
 use Rattle.gates.specs.declared.Gate.{Gate}
 use Rattle.gates.specs.declared.Gate.the-variants.{Not, Powered}
+use Rattle.gates.specs.Every.{Every}
 use Rattle.gates.specs.Circuit.{target, slot, power, Valid}
 
 -- the number of a gate
@@ -31,5 +32,4 @@ pub record Code (n k : ℕ) : Type 0 where
 
 -- each of the numbers is
 abbrev pub AllCodes : ℕ → List ℕ → Type 0
-AllCodes n [] = Unit {0}
-AllCodes n (k ∷ l) = Code n k × AllCodes n l
+AllCodes n = Every (Code n)

@@ -1,3 +1,5 @@
+-- The definitions of this crate, in reading order.
+pub mod Every
 pub mod Circuit
 pub mod Order
 pub mod Reduced

@@ -1,18 +1,18 @@
 -- The demands follow from what the jobs say. Assumes nothing.
 use mathlib.Core.Path.{_≡_, refl, sym, ap, _∙_, subst}
 use mathlib.Core.Bool.{Bool, true, false, cond}
-use mathlib.Core.List.{List, [], _∷_, _++_}
-use Prim.Native.Nat.{ℕ, _-_, _≤_, _<_}
+use mathlib.Core.List.{List, _++_}
+use Prim.Native.Nat.{ℕ, _≤_, _<_}
 use native.Mathlib.Omega.{arith}
-use lib.ListN.{length, take, drop, replicate}
+use lib.ListN.{length, take, drop}
+use lib.Seq.{take-append-seam}
 use lib.Dec.{ltb}
 use borrow.Author.Tests.{ltb-true, ltb-false}
 use Rattle.gates.specs.declared.Gate.{Gate}
-use Rattle.gates.specs.declared.Gate.the-variants.{Not}
 use Rattle.gates.specs.Circuit.{AllValid, step, Linked, done, forth, back}
 use Rattle.gates.specs.Reduced.{Reduced}
 use Rattle.cascades.specs.Cascade.{Controlled, Realises}
-use Rattle.gates.proofs.Theorem.{nf, nf-reduced, reduced-unique, same-nf}
+use Rattle.gates.proofs.Theorem.{nf, reduced-unique, same-nf}
 use Rattle.meaning.proofs.Links.{same-matrix-sym, reduced-matrix}
 use Rattle.cascades.proofs.Realises.{reduced-realises}
 use Rattle.text.specs.declared.Refusal.{Refusal}
@@ -20,19 +20,17 @@ use Rattle.text.specs.declared.Head.{Head}
 use Rattle.text.specs.Refusals.{number-of}
 use Rattle.text.specs.declared.Refusal.the-variants.{ShortAnswer}
 use Rattle.text.specs.Text.{lines, circuit-text, cascade-text, AllProper}
-use Rattle.text.specs.Judging.{Kind, cascade, circuit, Judged, turned-away, accepted, judge}
-use Rattle.jobs.specs.Jobs.{Job, mapping, reducing, quoting, takes, Entry, Exit, filled, refusal, judged, written, answered, Settled, Says}
+use Rattle.text.specs.declared.Kind.{Kind}
+use Rattle.text.specs.declared.Kind.the-variants.{Cascade, Circuit}
+use Rattle.text.specs.Judging.{Judged, turned-away, accepted, judge}
+use Rattle.jobs.specs.Jobs.{Job, quoting, takes, Output, as-text, as-count, output, Entry, Exit, filled, left, refusal, judged, success, written, put-out, answered, Settled, Says}
 use Rattle.jobs.specs.Demands.{Gives, Listed, given, withheld, Ran, Meant, Demand2, Defined, Demand3}
 use Rattle.text.proofs.Accepted.{as-forms, Text, accepted-circuit, cascade-of, circuit-of}
 use Rattle.text.proofs.Written.{judge-written}
 use Rattle.text.proofs.Unambiguous.{cascade-text-is}
-use Rattle.jobs.proofs.One.{Passed, judged-accepted, passed-valid}
+use Rattle.jobs.proofs.One.{Passed, judged-accepted, passed-valid, is-nf}
 
--- ---- lists
-
-pub take-front : {A : Type 0} (s t : List A) → take (length s) (s ++ t) ≡ s
-take-front [] t = refl
-take-front {A} (a ∷ s) t = ap (λ (l : List A). a ∷ l) (take-front s t)
+-- ---- linked circuits
 
 linked-valid : (n : ℕ) {c d : List Gate} → Linked n c d → AllValid n c → AllValid n d
 linked-valid n done f = f
@@ -56,80 +54,93 @@ pub record Facts (n : ℕ) (c r : List Gate) : Type 0 where
   pub least : 1 ≤ n
   pub largest : n ≤ 32
 
-facts : {k : Kind} {e : Entry} {h : Head} {c r : List Gate} → Passed k e h c → Reduced (h .lines) c r → Facts (h .lines) c r
+facts : {k : Kind} {s : List ℕ} {records : ℕ} {h : Head} {c r : List Gate} → Passed k s records h c → Reduced (h .lines) c r → Facts (h .lines) c r
 facts {h = h} {c} p w = let s = w .fewest c done in let t = p .text .short in
     record { fits = linked-valid (h .lines) (w .linked) (passed-valid p); short = omega arith; least = p .text .least; largest = p .text .largest }
 
 pub data Wrote (e : Entry) (r : List Gate) (s : List ℕ) (x : Exit) : Type 0 where
   longer : length (e .area) < length s → x ≡ refusal ShortAnswer 0 e → Wrote e r s x
-  holds : length s ≤ length (e .area) → x ≡ record { number = 0; line = 0; count = length s; list = filled r (e .list); area = s ++ drop (length s) (e .area) } → Wrote e r s x
+  holds : length s ≤ length (e .area) → x ≡ success e r (length s) (s ++ drop (length s) (e .area)) → Wrote e r s x
 
 pub wrote : (e : Entry) (r : List Gate) (s : List ℕ) → Wrote e r s (written e r s)
 unfolding written
 wrote e r s = go (ltb (length (e .area)) (length s)) refl
   where
-    go : (b : Bool) → ltb (length (e .area)) (length s) ≡ b → Wrote e r s (cond b (refusal ShortAnswer 0 e) (record { number = 0; line = 0; count = length s; list = filled r (e .list); area = s ++ drop (length s) (e .area) }))
+    go : (b : Bool) → ltb (length (e .area)) (length s) ≡ b → Wrote e r s (cond b (refusal ShortAnswer 0 e) (success e r (length s) (s ++ drop (length s) (e .area))))
     go true q = longer (ltb-true _ _ q) refl
     go false q = holds (ltb-false _ _ q) refl
 
-refusal-number : (r : Refusal) (l : ℕ) (e : Entry) {x : Exit} → x ≡ refusal r l e → x .number ≡ number-of r
-unfolding refusal
-refusal-number r l e q = ap (λ (y : Exit). y .number) q
+-- a text at the front of the area, and gates at the front of the list
+pub area-front : (e : Entry) (r : List Gate) (s t : List ℕ) {x : Exit} → x ≡ success e r (length s) (s ++ t) → take (x .count) (x .area) ≡ s
+area-front e r s t q = ap (λ (y : Exit). take (y .count) (y .area)) q ∙ take-append-seam s t
 
-ten : number-of ShortAnswer ≡ 10
+list-front : (e : Entry) (r : List Gate) (a : List ℕ) {x : Exit} → x ≡ success e r (length r) a → take (x .count) (x .list) ≡ r
+unfolding filled
+list-front e r a q = ap (λ (y : Exit). take (y .count) (y .list)) q ∙ take-append-seam r _
+
+pub refusal-is : (r : Refusal) (l : ℕ) (e : Entry) {x : Exit} → x ≡ refusal r l e → (x .number ≡ number-of r) × (x .line ≡ l) × (x .count ≡ 0) × (x .list ≡ left r (e .list)) × (x .area ≡ e .area)
+unfolding refusal
+refusal-is r l e q = (ap (λ (y : Exit). y .number) q, ap (λ (y : Exit). y .line) q, ap (λ (y : Exit). y .count) q, ap (λ (y : Exit). y .list) q, ap (λ (y : Exit). y .area) q)
+
+pub ten : number-of ShortAnswer ≡ 10
 unfolding number-of
 ten = refl
 
--- the gates of a text that was written
-read-back : (e : Entry) (n : ℕ) (c r r′ : List Gate) (x : Exit) → Facts n c r′ → Wrote e r′ (circuit-text n r′) x → x .number ≡ 0 → judge circuit (take (x .count) (x .area)) ≡ accepted (record { lines = n }) r → r ≡ r′
-read-back e n c r r′ x f (longer h q) z g = absurd (omega (arith, z, refusal-number ShortAnswer 0 e q, ten))
-read-back e n c r r′ x f (holds h q) z g =
-    let s = circuit-text n r′ in
-    let a : take (x .count) (x .area) ≡ s = ap (λ (y : Exit). take (y .count) (y .area)) q ∙ take-front s (drop (length s) (e .area)) in
-    accepted-circuit (sym g ∙ ap (judge circuit) a ∙ judge-written n r′ (f .fits) (f .least) (f .largest) (f .short))
+-- ---- the list that a job gives
 
--- what a job gives is the reduced list
-gives-reduced : (j : Job) (e : Entry) (h : Head) (c r r′ : List Gate) (x : Exit) → Facts (h .lines) c r′ → x ≡ answered j e h r′ → x .number ≡ 0 → Gives j (h .lines) x r → r ≡ r′
-unfolding Gives answered filled
-gives-reduced mapping e h c r r′ x f q z g = read-back e (h .lines) c r r′ x f (subst (Wrote e r′ (circuit-text (h .lines) r′)) (sym q) (wrote e r′ (circuit-text (h .lines) r′))) z g
-gives-reduced reducing e h c r r′ x f q z g = read-back e (h .lines) c r r′ x f (subst (Wrote e r′ (circuit-text (h .lines) r′)) (sym q) (wrote e r′ (circuit-text (h .lines) r′))) z g
-gives-reduced quoting e h c r r′ x f q z g = sym g ∙ ap (λ (y : Exit). take (y .count) (y .list)) q ∙ take-front r′ (replicate (length (e .list) - length r′) (Not 0))
+-- there is one at the most
+gives-one : (o : Output) (n : ℕ) (x : Exit) {r s : List Gate} → Gives o n x r → Gives o n x s → r ≡ s
+unfolding Gives
+gives-one as-text n x g k = accepted-circuit (sym g ∙ k)
+gives-one as-count n x g k = sym g ∙ k
+
+-- it is the reduced list
+listed-text : (e : Entry) (n : ℕ) (c r : List Gate) (x : Exit) → Facts n c r → Reduced n c r → Wrote e r (circuit-text n r) x → Listed as-text n c x r
+unfolding Gives
+listed-text e n c r x f w (longer h q) = withheld (refusal-is ShortAnswer 0 e q .0 ∙ ten) w
+listed-text e n c r x f w (holds h q) = given (ap (λ (y : Exit). y .number) q)
+    (ap (judge Circuit) (area-front e r (circuit-text n r) _ q) ∙ judge-written n r (f .fits) (f .least) (f .largest) (f .short))
+
+listed-answer : (o : Output) (e : Entry) (h : Head) (c r : List Gate) (x : Exit) → Facts (h .lines) c r → Reduced (h .lines) c r → x ≡ put-out o e h r → Listed o (h .lines) c x r
+unfolding Gives
+listed-answer as-text e h c r x f w q = listed-text e (h .lines) c r x f w (rw q (wrote e r (circuit-text (h .lines) r)))
+listed-answer as-count e h c r x f w q = given (ap (λ (y : Exit). y .number) q) (list-front e r (e .area) q)
 
 -- the circuit of a run, and what its job said of it
 record Answer {n : ℕ} {c r : List Gate} (a : Ran n c r) : Type 0 where
-  passed : Passed (takes (a .job)) (a .entry) (a .head) c
+  text : Text (takes (a .job)) n (a .entry .text) c
   valid : AllValid n c
   list : List Gate
   reduced : Reduced n c list
   is : a .exit ≡ answered (a .job) (a .entry) (a .head) list
+  listed : Listed (output (a .job)) n c (a .exit) list
 
 answer : {n : ℕ} {c r : List Gate} (a : Ran n c r) → Answer a
+unfolding answered
 answer {n} {c} a =
     let p = judged-accepted (takes (a .job)) (a .entry) (a .passed) in
     let s = says-accepted (a .job) (a .entry) (a .exit) (a .says) (a .passed) in
     record {
-      passed = p;
-      valid = subst (λ (m : ℕ). AllValid m c) (a .lines) (passed-valid p);
+      text = rw (a .lines) at (p .text);
+      valid = rw (a .lines) at (passed-valid p);
       list = s .0;
       reduced = subst (λ (m : ℕ). Reduced m c (s .0)) (a .lines) (s .1);
       is = s .2;
+      listed = subst (λ (m : ℕ). Listed (output (a .job)) m c (a .exit) (s .0)) (a .lines) (listed-answer (output (a .job)) (a .entry) (a .head) c (s .0) (a .exit) (facts p (s .1)) (s .1) (s .2));
     }
 
 pub ran-reduced : {n : ℕ} {c r : List Gate} → Ran n c r → Reduced n c r
-ran-reduced {n} {c} {r} a = go (a .listed)
+ran-reduced {n} {c} {r} a = go (a .listed) (answer a .listed)
   where
-    go : Listed (a .job) n c (a .exit) r → Reduced n c r
-    go (withheld z w) = w
-    go (given z g) =
-        let s = answer a in
-        let w : Reduced (a .head .lines) c (s .list) = subst (λ (m : ℕ). Reduced m c (s .list)) (sym (a .lines)) (s .reduced) in
-        let g′ : Gives (a .job) (a .head .lines) (a .exit) r = subst (λ (m : ℕ). Gives (a .job) m (a .exit) r) (sym (a .lines)) g in
-        rw (gives-reduced (a .job) (a .entry) (a .head) c r (s .list) (a .exit) (facts (s .passed) w) (s .is) z g′) (s .reduced)
+    go : Listed (output (a .job)) n c (a .exit) r → Listed (output (a .job)) n c (a .exit) (answer a .list) → Reduced n c r
+    go (withheld z w) l = w
+    go (given z g) (withheld y w) = absurd (omega (arith, z, y))
+    go (given z g) (given y k) = rw (gives-one (output (a .job)) n (a .exit) g k) (answer a .reduced)
 
 -- ---- demand 3
 
 ran-nf : {n : ℕ} {c r : List Gate} → Ran n c r → r ≡ nf c
-ran-nf {n} {c} a = reduced-unique n (ran-reduced a) (nf-reduced n c (answer a .valid))
+ran-nf a = is-nf (answer a .valid) (ran-reduced a)
 
 quote-counts : (j : Job) (e : Entry) (h : Head) (r : List Gate) (x : Exit) → x ≡ answered j e h r → j ≡ quoting → x .count ≡ length r
 unfolding answered
@@ -152,53 +163,40 @@ demand-3 {n} {c} {d} {r} {s} a b =
     }
 
 -- each run on a text that rules 1 to 9 let pass has exactly one list
-listed-written : (j : Job) (e : Entry) (n : ℕ) (c r : List Gate) (x : Exit) → Facts n c r → Reduced n c r → Wrote e r (circuit-text n r) x
-    → ((y : Exit) → judge circuit (take (y .count) (y .area)) ≡ accepted (record { lines = n }) r → Gives j n y r) → Listed j n c x r
-listed-written j e n c r x f w (longer h q) g = withheld (refusal-number ShortAnswer 0 e q ∙ ten) w
-listed-written j e n c r x f w (holds h q) g = given (ap (λ (y : Exit). y .number) q)
-    (g x (ap (λ (y : Exit). judge circuit (take (y .count) (y .area))) q ∙ ap (judge circuit) (take-front (circuit-text n r) _) ∙ judge-written n r (f .fits) (f .least) (f .largest) (f .short)))
-
-listed-answer : (j : Job) (e : Entry) (h : Head) (c r : List Gate) (x : Exit) → Facts (h .lines) c r → Reduced (h .lines) c r → x ≡ answered j e h r → Listed j (h .lines) c x r
-unfolding Gives answered filled
-listed-answer mapping e h c r x f w q = listed-written mapping e (h .lines) c r x f w (subst (Wrote e r (circuit-text (h .lines) r)) (sym q) (wrote e r (circuit-text (h .lines) r))) (λ y g. g)
-listed-answer reducing e h c r x f w q = listed-written reducing e (h .lines) c r x f w (subst (Wrote e r (circuit-text (h .lines) r)) (sym q) (wrote e r (circuit-text (h .lines) r))) (λ y g. g)
-listed-answer quoting e h c r x f w q = given (ap (λ (y : Exit). y .number) q) (ap (λ (y : Exit). take (y .count) (y .list)) q ∙ take-front r _)
-
-pub listed-one : (j : Job) (e : Entry) (x : Exit) {h : Head} {c : List Gate} → Says j e x → judged (takes j) e ≡ accepted h c → (r : List Gate) × Listed j (h .lines) c x r × ((s : List Gate) → Listed j (h .lines) c x s → s ≡ r)
+pub listed-one : (j : Job) (e : Entry) (x : Exit) {h : Head} {c : List Gate} → Says j e x → judged (takes j) e ≡ accepted h c → (r : List Gate) × Listed (output j) (h .lines) c x r × ((s : List Gate) → Listed (output j) (h .lines) c x s → s ≡ r)
+unfolding answered
 listed-one j e x {h} {c} s q =
     let y = says-accepted j e x s q in
-    let l = listed-answer j e h c (y .0) x (facts (judged-accepted (takes j) e q) (y .1)) (y .1) (y .2) in
-    let a : Ran (h .lines) c (y .0) = record { job = j; entry = e; exit = x; head = h; says = s; passed = q; lines = refl; listed = l } in
-    (y .0, l, λ t k. let b : Ran (h .lines) c t = record { job = j; entry = e; exit = x; head = h; says = s; passed = q; lines = refl; listed = k } in ran-nf b ∙ sym (ran-nf a))
+    let l = listed-answer (output j) e h c (y .0) x (facts (judged-accepted (takes j) e q) (y .1)) (y .1) (y .2) in
+    (y .0, l, λ t k. ran-nf (run t k) ∙ sym (ran-nf (run (y .0) l)))
+  where
+    run : (r : List Gate) → Listed (output j) (h .lines) c x r → Ran (h .lines) c r
+    run r l = record { job = j; entry = e; exit = x; head = h; says = s; passed = q; lines = refl; listed = l }
 
 -- ---- demand 2
 
-meant-cascade : {n : ℕ} {s : List ℕ} {c r : List Gate} → Text cascade n s c → Reduced n c r → (gs : List Controlled) × (s ≡ cascade-text n gs) × Realises n gs r
+meant-cascade : {n : ℕ} {s : List ℕ} {c r : List Gate} → Text Cascade n s c → Reduced n c r → (gs : List Controlled) × (s ≡ cascade-text n gs) × Realises n gs r
 meant-cascade {n} {s} {c} {r} t w =
     let k = cascade-of t in
     (k .mcts, k .written, reduced-realises n (k .mcts) (k .ready) (subst (λ (d : List Gate). Reduced n d r) (k .expanded) w))
 
-meant : (j : Job) {n : ℕ} {s : List ℕ} {c r : List Gate} → Text (takes j) n s c → Reduced n c r → Meant j n s r
-unfolding Meant takes
-meant mapping t w = meant-cascade t w
-meant reducing {n} {s} {c} {r} t w = (c, circuit-of t, same-matrix-sym n c r (reduced-matrix n w))
-meant quoting t w = meant-cascade t w
-
-ran-text : {n : ℕ} {c r : List Gate} (a : Ran n c r) → Text (takes (a .job)) n (a .entry .text) c
-ran-text {n} {c} a = subst (λ (m : ℕ). Text (takes (a .job)) m (a .entry .text) c) (a .lines) (answer a .passed .text)
+meant : (k : Kind) {n : ℕ} {s : List ℕ} {c r : List Gate} → Text k n s c → Reduced n c r → Meant k n s r
+unfolding Meant
+meant Cascade t w = meant-cascade t w
+meant Circuit {n} {s} {c} {r} t w = (c, circuit-of t, same-matrix-sym n c r (reduced-matrix n w))
 
 pub demand-2 : {n : ℕ} {c r : List Gate} (a : Ran n c r) → Demand2 a
 demand-2 {n} {c} {r} a =
     let w = ran-reduced a in
-    record { meant = meant (a .job) (ran-text a) w; matrix = same-matrix-sym n c r (reduced-matrix n w); counted = ran-counted a }
+    record { meant = meant (takes (a .job)) (answer a .text) w; matrix = same-matrix-sym n c r (reduced-matrix n w); counted = ran-counted a }
 
 -- ---- whichever cascade a text shows, it is this one
 
 -- from a text that shows the cascade gs, the list does what gs does
-pub demand-2-any : {n : ℕ} {c r : List Gate} (a : Ran n c r) → takes (a .job) ≡ cascade → (gs : List Controlled) → AllProper (as-forms gs) → a .entry .text ≡ cascade-text n gs → Realises n gs r
+pub demand-2-any : {n : ℕ} {c r : List Gate} (a : Ran n c r) → takes (a .job) ≡ Cascade → (gs : List Controlled) → AllProper (as-forms gs) → a .entry .text ≡ cascade-text n gs → Realises n gs r
 unfolding meant-cascade
 demand-2-any {n} {c} {r} a h gs p e =
-    let t : Text cascade n (a .entry .text) c = subst (λ (k : Kind). Text k n (a .entry .text) c) h (ran-text a) in
+    let t : Text Cascade n (a .entry .text) c = subst (λ (k : Kind). Text k n (a .entry .text) c) h (answer a .text) in
     let k = cascade-of t in
     let l = t .largest in
     subst (λ (hs : List Controlled). Realises n hs r) (cascade-text-is n n (k .mcts) gs (omega arith) (omega arith) (k .proper) p (sym (k .written) ∙ e) .1) (meant-cascade t (ran-reduced a) .2)

@@ -1,37 +1,57 @@
 -- For every entry there is exactly one exit that a job's contract allows. Assumes nothing.
-use mathlib.Core.Path.{_≡_, refl, ap, _∙_}
+use mathlib.Core.Path.{_≡_, refl, sym, ap, _∙_, subst}
 use mathlib.Core.Bool.{Bool, true, false}
 use mathlib.Core.List.{List, [], _∷_}
-use Prim.Native.Nat.{_≤_}
+use Prim.Native.Nat.{ℕ, _≤_}
 use lib.ListN.{length}
 use lib.Dec.{ltb}
 use borrow.Author.Tests.{ltb-false}
 use Rattle.gates.specs.declared.Gate.{Gate}
 use Rattle.gates.specs.Circuit.{AllValid}
+use Rattle.gates.specs.Reduced.{Reduced}
 use Rattle.gates.proofs.Theorem.{nf, nf-reduced, reduced-unique}
 use Rattle.text.specs.declared.Head.{Head}
 use Rattle.text.specs.declared.Refusal.the-variants.{Overlong, ShortList}
-use Rattle.text.specs.Judging.{Kind, Judged, turned-away, accepted, rule, first, or-else, judge}
+use Rattle.text.specs.declared.Kind.{Kind}
+use Rattle.text.specs.Judging.{Judged, turned-away, accepted, rule, first, or-else, judge}
 use Rattle.jobs.specs.Jobs.{Job, takes, Entry, Exit, refusal, judged, judged-text, size-rules, answered, Settled, Says}
-use Rattle.text.proofs.Accepted.{Text, away-accepted, judge-accepted, text-valid}
+use Rattle.text.proofs.Accepted.{Text, away-accepted, accepted-head, accepted-circuit, judge-accepted, text-valid}
 
--- what rules 1 and 2 let pass
-pub record Passed (k : Kind) (e : Entry) (h : Head) (c : List Gate) : Type 0 where
-  pub small : length (e .text) ≤ 60000
-  pub room : 4096 ≤ length (e .list)
-  pub text : Text k (h .lines) (e .text) c
+-- what rules 1 and 2 let pass: a text, for a gate list of this many records
+pub record Passed (k : Kind) (s : List ℕ) (records : ℕ) (h : Head) (c : List Gate) : Type 0 where
+  pub small : length s ≤ 60000
+  pub room : 4096 ≤ records
+  pub text : Text k (h .lines) s c
 
-pub judged-accepted : (k : Kind) (e : Entry) {h : Head} {c : List Gate} → judged k e ≡ accepted h c → Passed k e h c
-unfolding judged judged-text size-rules first or-else
-judged-accepted k e {h} {c} q = go (ltb 60000 (length (e .text))) refl (ltb (length (e .list)) 4096) refl q
+pub text-passed : (k : Kind) (s : List ℕ) (records : ℕ) {h : Head} {c : List Gate} → judged-text k s records ≡ accepted h c → Passed k s records h c
+unfolding judged-text size-rules first or-else
+text-passed k s records {h} {c} q = go (ltb 60000 (length s)) refl (ltb records 4096) refl q
   where
-    go : (a : Bool) → ltb 60000 (length (e .text)) ≡ a → (b : Bool) → ltb (length (e .list)) 4096 ≡ b → or-else (first (rule Overlong a ∷ rule ShortList b ∷ [])) 0 (judge k (e .text)) ≡ accepted h c → Passed k e h c
+    go : (a : Bool) → ltb 60000 (length s) ≡ a → (b : Bool) → ltb records 4096 ≡ b → or-else (first (rule Overlong a ∷ rule ShortList b ∷ [])) 0 (judge k s) ≡ accepted h c → Passed k s records h c
     go true p b r z = absurd (away-accepted z)
     go false p true r z = absurd (away-accepted z)
-    go false p false r z = record { small = ltb-false 60000 (length (e .text)) p; room = ltb-false (length (e .list)) 4096 r; text = judge-accepted k (e .text) z }
+    go false p false r z = record { small = ltb-false 60000 (length s) p; room = ltb-false records 4096 r; text = judge-accepted k s z }
 
-pub passed-valid : {k : Kind} {e : Entry} {h : Head} {c : List Gate} → Passed k e h c → AllValid (h .lines) c
+pub judged-accepted : (k : Kind) (e : Entry) {h : Head} {c : List Gate} → judged k e ≡ accepted h c → Passed k (e .text) (length (e .list)) h c
+unfolding judged
+judged-accepted k e q = text-passed k (e .text) (length (e .list)) q
+
+pub passed-valid : {k : Kind} {s : List ℕ} {records : ℕ} {h : Head} {c : List Gate} → Passed k s records h c → AllValid (h .lines) c
 passed-valid w = text-valid (w .text)
+
+-- a judgement leaves one reduced list
+pub accepted-one : {h g : Head} {c d r s : List Gate} → accepted h c ≡ accepted g d → Reduced (h .lines) c r → Reduced (g .lines) d s → r ≡ s
+accepted-one {h} {g} {c} {d} {r} {s} q v w = reduced-unique (h .lines) v
+    (subst (λ (b : List Gate). Reduced (h .lines) b s) (sym (accepted-circuit q)) (subst (λ (f : Head). Reduced (f .lines) d s) (sym (accepted-head q)) w))
+
+-- and that is the normal form
+pub is-nf : {n : ℕ} {c r : List Gate} → AllValid n c → Reduced n c r → r ≡ nf c
+is-nf {n} {c} v w = reduced-unique n w (nf-reduced n c v)
+
+-- ---- the one exit
+
+pub answered-nf : (j : Job) (e : Entry) {h : Head} {c r : List Gate} {x : Exit} → judged (takes j) e ≡ accepted h c → Reduced (h .lines) c r → x ≡ answered j e h r → x ≡ answered j e h (nf c)
+answered-nf j e {h} q w i = i ∙ ap (answered j e h) (is-nf (passed-valid (judged-accepted (takes j) e q)) w)
 
 unfoldable pub Only : Job → Entry → Judged → Type 0
 Only j e d = (x : Exit) × Settled j e d x × ((y : Exit) → Settled j e d y → y ≡ x)
@@ -39,10 +59,7 @@ Only j e d = (x : Exit) × Settled j e d x × ((y : Exit) → Settled j e d y �
 only : (j : Job) (e : Entry) (d : Judged) → judged (takes j) e ≡ d → Only j e d
 unfolding Only Settled
 only j e (turned-away r l) q = (refusal r l e, refl, λ y h. h)
-only j e (accepted h c) q =
-    let f = passed-valid (judged-accepted (takes j) e q) in
-    let w = nf-reduced (h .lines) c f in
-    (answered j e h (nf c), (nf c, w, refl), λ y z. z .2 ∙ ap (answered j e h) (reduced-unique (h .lines) (z .1) w))
+only j e (accepted h c) q = (answered j e h (nf c), (nf c, nf-reduced (h .lines) c (passed-valid (judged-accepted (takes j) e q)), refl), λ y z. answered-nf j e q (z .1) (z .2))
 
 -- the contract binds completely
 pub says-one : (j : Job) (e : Entry) → (x : Exit) × Says j e x × ((y : Exit) → Says j e y → y ≡ x)

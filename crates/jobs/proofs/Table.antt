@@ -1,9 +1,8 @@
 -- The starred examples hold. Assumes nothing.
-use mathlib.Core.Path.{_≡_, refl, ap, _∙_}
-use mathlib.Core.Bool.{Bool, true, false, not, _&&_}
+use mathlib.Core.Path.{_≡_, refl, sym, ap, _∙_}
+use mathlib.Core.Bool.{Bool, true, false, not, _&&_, true≢false}
 use mathlib.Core.List.{List, [], _∷_}
 use Prim.Native.Nat.{ℕ, _≤_}
-use native.Mathlib.Omega.{arith}
 use native.Mathlib.Decide.{ℕ-discrete, decLt}
 use lib.ListN.{length, take, drop}
 use lib.Dec.{ltb, eqb}
@@ -18,37 +17,29 @@ use Rattle.meaning.proofs.Flips.{both}
 use Rattle.gates.proofs.Sites.{order-targets-equal, order-targets, order, passes-dec}
 use Rattle.gates.proofs.Merge.{merged}
 use Rattle.gates.proofs.Push.{free-dec, turn-of, turn, place, push}
-use Rattle.gates.proofs.Theorem.{nf, nf-reduced, reduced-unique}
+use Rattle.gates.proofs.Theorem.{nf}
 use Rattle.text.specs.declared.Head.{Head}
 use Rattle.text.specs.Refusals.{number-of}
 use Rattle.text.specs.Text.{digits, spaced, one, two, word, render, rendered, circuit-text}
 use Rattle.text.specs.Reading as R
 use Rattle.text.specs.Reading.{strip, second, num, tail, pair, list, many, lines-body, not-body, mct-body, powered-body, parse, whole, read, longer, cut}
 use Rattle.text.specs.Judging as J
-use Rattle.text.specs.Judging.{Kind, Judged, turned-away, accepted, belongs, most, any-from, rising, first, head-rules, rules, or-else, judge-lines, judge-text, read-all, judge}
-use Rattle.jobs.specs.Jobs.{Job, mapping, reducing, quoting, takes, Entry, Exit, refusal, judged, judged-text, size-rules, written, answered, Says}
+use Rattle.text.specs.declared.Kind.{Kind}
+use Rattle.text.specs.Judging.{Judged, turned-away, accepted, belongs, most, any-from, rising, first, head-rules, rules, or-else, judge-lines, judge-text, read-all, judge}
+use Rattle.jobs.specs.Jobs.{Job, takes, Output, as-text, as-count, output, Entry, Exit, refusal, judged, judged-text, size-rules, written, put-out, answered, Says}
 use Rattle.jobs.specs.Examples.{typed, Answer, text, gates, away, Row, gives, expands, Shows, room, Holds, All, table}
-use Rattle.jobs.proofs.One.{judged-accepted, passed-valid}
-use Rattle.jobs.proofs.Demands.{says-accepted, says-turned-away, take-front}
+use Rattle.jobs.proofs.One.{answered-nf}
+use Rattle.jobs.proofs.Demands.{says-accepted, says-turned-away, area-front}
 
 -- rules 1 and 2 let a short text and a long list pass
 judged-is : (k : Kind) (e : Entry) (s : List ℕ) → e .text ≡ s → ltb 60000 (length s) ≡ false → 4096 ≤ length (e .list) → judged k e ≡ judge k s
 unfolding judged judged-text size-rules first or-else
 judged-is k e s q h l = rw (q, h, le-ltb (length (e .list)) 4096 l)
 
--- what a job answers where its text is accepted
-answer-is : (j : Job) (e : Entry) (x : Exit) (h : Head) (c : List Gate) → judged (takes j) e ≡ accepted h c → Says j e x → x ≡ answered j e h (nf c)
-answer-is j e x h c p y =
-    let w = says-accepted j e x y p in
-    w .2 ∙ ap (answered j e h) (reduced-unique (h .lines) (w .1) (nf-reduced (h .lines) c (passed-valid (judged-accepted (takes j) e p))))
-
-false-true : false ≡ true → ⊥
-false-true e = let z : _≡_ {A = ℕ} 0 1 = cc in omega arith
-
 text-shown : (e : Entry) (x : Exit) (r : List Gate) (s : List ℕ) → length s ≤ length (e .area) → x ≡ written e r s → (x .number ≡ 0) × (take (x .count) (x .area) ≡ s)
 unfolding written
 text-shown e x r s h q = let z = rw (le-ltb (length (e .area)) (length s) h) at q in
-    (ap (λ (y : Exit). y .number) z, ap (λ (y : Exit). take (y .count) (y .area)) z ∙ take-front s (drop (length s) (e .area)))
+    (ap (λ (y : Exit). y .number) z, area-front e r s (drop (length s) (e .area)) z)
 
 -- ---- a row is tested by computing: its text is judged, and the normal form is compared
 
@@ -60,23 +51,20 @@ same (a ∷ s) (b ∷ t) = eqb a b && same s t
 
 same-is : (s t : List ℕ) → same s t ≡ true → s ≡ t
 same-is [] [] e = refl
-same-is [] (b ∷ t) e = absurd (false-true e)
-same-is (a ∷ s) [] e = absurd (false-true e)
+same-is [] (b ∷ t) e = absurd (true≢false (sym e))
+same-is (a ∷ s) [] e = absurd (true≢false (sym e))
 same-is (a ∷ s) (b ∷ t) e = let u = both (eqb a b) (same s t) e in let x = eqb-true a b (u .0) in let y = same-is s t (u .1) in cc
 
-unfoldable answers : Job → ℕ → List Gate → Answer → Bool
-answers mapping n r (text out) = same (circuit-text n r) (typed out)
-answers mapping n r (gates m) = false
-answers mapping n r (away m l) = false
-answers reducing n r (text out) = same (circuit-text n r) (typed out)
-answers reducing n r (gates m) = false
-answers reducing n r (away m l) = false
-answers quoting n r (text out) = false
-answers quoting n r (gates m) = eqb (length r) m
-answers quoting n r (away m l) = false
+unfoldable answers : Output → ℕ → List Gate → Answer → Bool
+answers as-text n r (text out) = same (circuit-text n r) (typed out)
+answers as-text n r (gates m) = false
+answers as-text n r (away m l) = false
+answers as-count n r (text out) = false
+answers as-count n r (gates m) = eqb (length r) m
+answers as-count n r (away m l) = false
 
 unfoldable fits : Job → Judged → Answer → Bool
-fits j (accepted h c) a = answers j (h .lines) (nf c) a
+fits j (accepted h c) a = answers (output j) (h .lines) (nf c) a
 fits j (turned-away r l) (text out) = false
 fits j (turned-away r l) (gates m) = false
 fits j (turned-away r l) (away m k) = eqb (number-of r) m && eqb l k
@@ -91,23 +79,20 @@ tests (r ∷ rs) = test r && tests rs
 
 -- ---- what passes the test holds
 
-answers-shown : (j : Job) (e : Entry) (x : Exit) (h : Head) (r : List Gate) (a : Answer) → room a ≤ length (e .area) → x ≡ answered j e h r → answers j (h .lines) r a ≡ true → Shows a x
-unfolding answers Shows room answered
-answers-shown mapping e x h r (text out) m z t = text-shown e x r (typed out) m (rw (same-is (circuit-text (h .lines) r) (typed out) t) at z)
-answers-shown mapping e x h r (gates k) m z t = absurd (false-true t)
-answers-shown mapping e x h r (away k l) m z t = absurd (false-true t)
-answers-shown reducing e x h r (text out) m z t = text-shown e x r (typed out) m (rw (same-is (circuit-text (h .lines) r) (typed out) t) at z)
-answers-shown reducing e x h r (gates k) m z t = absurd (false-true t)
-answers-shown reducing e x h r (away k l) m z t = absurd (false-true t)
-answers-shown quoting e x h r (text out) m z t = absurd (false-true t)
-answers-shown quoting e x h r (gates k) m z t = (ap (λ (w : Exit). w .number) z, ap (λ (w : Exit). w .count) z ∙ eqb-true (length r) k t)
-answers-shown quoting e x h r (away k l) m z t = absurd (false-true t)
+answers-shown : (o : Output) (e : Entry) (x : Exit) (h : Head) (r : List Gate) (a : Answer) → room a ≤ length (e .area) → x ≡ put-out o e h r → answers o (h .lines) r a ≡ true → Shows a x
+unfolding answers Shows room
+answers-shown as-text e x h r (text out) m z t = text-shown e x r (typed out) m (rw (same-is (circuit-text (h .lines) r) (typed out) t) at z)
+answers-shown as-text e x h r (gates k) m z t = absurd (true≢false (sym t))
+answers-shown as-text e x h r (away k l) m z t = absurd (true≢false (sym t))
+answers-shown as-count e x h r (text out) m z t = absurd (true≢false (sym t))
+answers-shown as-count e x h r (gates k) m z t = (ap (λ (w : Exit). w .number) z, ap (λ (w : Exit). w .count) z ∙ eqb-true (length r) k t)
+answers-shown as-count e x h r (away k l) m z t = absurd (true≢false (sym t))
 
 fits-shown : (j : Job) (e : Entry) (x : Exit) (d : Judged) (a : Answer) → judged (takes j) e ≡ d → room a ≤ length (e .area) → Says j e x → fits j d a ≡ true → Shows a x
-unfolding fits Shows refusal
-fits-shown j e x (accepted h c) a p m y t = answers-shown j e x h (nf c) a m (answer-is j e x h c p y) t
-fits-shown j e x (turned-away r l) (text out) p m y t = absurd (false-true t)
-fits-shown j e x (turned-away r l) (gates k) p m y t = absurd (false-true t)
+unfolding fits Shows refusal answered
+fits-shown j e x (accepted h c) a p m y t = let w = says-accepted j e x y p in answers-shown (output j) e x h (nf c) a m (answered-nf j e p (w .1) (w .2)) t
+fits-shown j e x (turned-away r l) (text out) p m y t = absurd (true≢false (sym t))
+fits-shown j e x (turned-away r l) (gates k) p m y t = absurd (true≢false (sym t))
 fits-shown j e x (turned-away r l) (away k i) p m y t =
     let z = says-turned-away j e x y p in
     let u = both (eqb (number-of r) k) (eqb l i) t in

@@ -14,22 +14,23 @@ use Rattle.text.specs.declared.Refusal.{Refusal}
 use Rattle.text.specs.declared.Head.{Head}
 use Rattle.text.specs.Refusals.{number-of}
 use Rattle.text.specs.Text.{cascade-text, circuit-text}
-use Rattle.text.specs.Judging.{circuit, accepted, turned-away, judge}
-use Rattle.jobs.specs.Jobs.{Job, mapping, reducing, quoting, takes, Entry, Exit, judged, Says}
+use Rattle.text.specs.declared.Kind.{Kind}
+use Rattle.text.specs.declared.Kind.the-variants.{Cascade, Circuit}
+use Rattle.text.specs.Judging.{accepted, turned-away, judge}
+use Rattle.jobs.specs.Jobs.{Job, quoting, takes, Output, as-text, as-count, output, Entry, Exit, judged, Says}
 
 -- ---- the list that a job gives
 
 -- "The list that map or reduce gives is the gates of its answer text, in order; the one that quote gives is the first records of its gate
 -- list, as many as the gates it counts"
-unfoldable pub Gives : Job → ℕ → Exit → List Gate → Type 0
-Gives mapping n x r = judge circuit (take (x .count) (x .area)) ≡ accepted (record { lines = n }) r
-Gives reducing n x r = judge circuit (take (x .count) (x .area)) ≡ accepted (record { lines = n }) r
-Gives quoting n x r = take (x .count) (x .list) ≡ r
+unfoldable pub Gives : Output → ℕ → Exit → List Gate → Type 0
+Gives as-text n x r = judge Circuit (take (x .count) (x .area)) ≡ accepted (record { lines = n }) r
+Gives as-count n x r = take (x .count) (x .list) ≡ r
 
 -- of an accepted text, the list given; "For a text that only rule 10 refuses, the reduced list that these definitions give its circuit"
-pub data Listed (j : Job) (n : ℕ) (c : List Gate) (x : Exit) (r : List Gate) : Type 0 where
-  given : x .number ≡ 0 → Gives j n x r → Listed j n c x r
-  withheld : x .number ≡ 10 → Reduced n c r → Listed j n c x r
+pub data Listed (o : Output) (n : ℕ) (c : List Gate) (x : Exit) (r : List Gate) : Type 0 where
+  given : x .number ≡ 0 → Gives o n x r → Listed o n c x r
+  withheld : x .number ≡ 10 → Reduced n c r → Listed o n c x r
 
 -- a run of any of the three jobs on a text of n lines that rules 1 to 9 let pass: its circuit c, read or expanded, and its list r
 pub record Ran (n : ℕ) (c r : List Gate) : Type 0 where
@@ -40,15 +41,17 @@ pub record Ran (n : ℕ) (c r : List Gate) : Type 0 where
   pub says : Says job entry exit
   pub passed : judged (takes job) entry ≡ accepted head c
   pub lines : head .lines ≡ n
-  pub listed : Listed job n c exit r
+  pub listed : Listed (output job) n c exit r
 
 -- ---- demand 1: every call answers, and the numbers are the table's
 
+abbrev pub IsText : Output → Type 0
+IsText as-text = Unit {0}
+IsText as-count = ⊥
+
 -- map and reduce write a text
 unfoldable pub Writes : Job → Type 0
-Writes mapping = Unit {0}
-Writes reducing = Unit {0}
-Writes quoting = ⊥
+Writes j = IsText (output j)
 
 -- "map or reduce: answer text longer than its area"
 unfoldable pub TooLong : Job → Entry → Type 0
@@ -72,14 +75,13 @@ pub record Demand1 (j : Job) (e : Entry) (x : Exit) : Type 0 where
 
 -- ---- demand 2: the list does what the cascade does, from every pattern
 
--- map and quote: the text shows a cascade, which the list realises; reduce: the text shows a circuit, whose matrix the list has
-unfoldable pub Meant : Job → ℕ → List ℕ → List Gate → Type 0
-Meant mapping n s r = (gs : List Controlled) × (s ≡ cascade-text n gs) × Realises n gs r
-Meant reducing n s r = (c : List Gate) × (s ≡ circuit-text n c) × SameMatrix n r c
-Meant quoting n s r = (gs : List Controlled) × (s ≡ cascade-text n gs) × Realises n gs r
+-- the text of map and quote shows a cascade, which the list realises; that of reduce shows a circuit, whose matrix the list has
+unfoldable pub Meant : Kind → ℕ → List ℕ → List Gate → Type 0
+Meant Cascade n s r = (gs : List Controlled) × (s ≡ cascade-text n gs) × Realises n gs r
+Meant Circuit n s r = (c : List Gate) × (s ≡ circuit-text n c) × SameMatrix n r c
 
 pub record Demand2 {n : ℕ} {c r : List Gate} (a : Ran n c r) : Type 0 where
-  pub meant : Meant (a .job) n (a .entry .text) r
+  pub meant : Meant (takes (a .job)) n (a .entry .text) r
   -- the list has the matrix of the circuit read or expanded
   pub matrix : SameMatrix n r c
   -- the quote is the list's number of gates

@@ -18,11 +18,15 @@ use Rattle.text.specs.Refusals.{number-of}
 use Rattle.text.specs.Text.{circuit-text}
 use Rattle.loading.specs.declared.Loaded.{Loaded}
 use Rattle.loading.specs.declared.Loaded.the-variants as loaded
-use Rattle.jobs.specs.Jobs.{Job, Says}
+use Rattle.jobs.specs.Jobs.{Job, Exit, Says}
+
+-- the exit with this outcome, this list and this area
+abbrev pub exit-of : Outcome → List Gate → List ℕ → Exit
+exit-of o l a = record { number = o .number; line = o .line; count = o .count; list = l; area = a }
 
 -- what a job says of its text, list and area at entry, its outcome, and its list and area at exit
 abbrev pub Said : Job → List ℕ → List Gate → List ℕ → Outcome → List Gate → List ℕ → Type 0
-Said j s l a o l′ a′ = Says j (record { text = s; list = l; area = a }) (record { number = o .number; line = o .line; count = o .count; list = l′; area = a′ })
+Said j s l a o l′ a′ = Says j (record { text = s; list = l; area = a }) (exit-of o l′ a′)
 
 -- what the covered part promises: it is given only the length of the gate list, and the job says it of every list of that length
 pub record Hands (j : Job) (s : List ℕ) (room : ℕ) (a : List ℕ) (d : Done) (a′ : List ℕ) : Type 0 where
@@ -43,10 +47,11 @@ refused r l room codes = record { codes = codes; gates = 0; limit = cond (leb (n
 unfoldable pub succeeded : ℕ → ℕ → ℕ → List ℕ → Done
 succeeded m count room codes = record { codes = codes; gates = m; limit = room; outcome = record { number = 0; line = 0; count = count } }
 
--- the first m codes as a text, where the answer area has room for it
-unfoldable pub text-of : Head → ℕ → List ℕ → List ℕ
+-- the first m codes as a text
+abbrev pub text-of : Head → ℕ → List ℕ → List ℕ
 text-of h m codes = circuit-text (h .lines) (gates (take m codes))
 
+-- that text, where the answer area has room for it
 unfoldable pub written-done : Head → ℕ → ℕ → List ℕ → List ℕ → Done
 written-done h m room codes a = cond (ltb (length a) (length (text-of h m codes))) (refused ShortAnswer 0 room codes) (succeeded m (length (text-of h m codes)) room codes)
 

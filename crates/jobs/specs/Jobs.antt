@@ -14,17 +14,33 @@ use Rattle.text.specs.declared.Refusal.the-variants.{Overlong, ShortList, Short
 use Rattle.text.specs.declared.Head.{Head}
 use Rattle.text.specs.Refusals.{number-of}
 use Rattle.text.specs.Text.{circuit-text}
-use Rattle.text.specs.Judging.{Kind, cascade, circuit, Judged, turned-away, accepted, Rule, rule, first, or-else, judge}
+use Rattle.text.specs.declared.Kind.{Kind}
+use Rattle.text.specs.declared.Kind.the-variants.{Cascade, Circuit}
+use Rattle.text.specs.Judging.{Judged, turned-away, accepted, Rule, rule, first, or-else, judge}
 
 -- map a cascade text to a circuit text, reduce a circuit text, quote the gate count of a cascade
 pub data Job : Type 0 where
   mapping reducing quoting : Job
 
--- the text that a job takes
+-- the kind of text that a job takes
 unfoldable pub takes : Job → Kind
-takes mapping = cascade
-takes reducing = circuit
-takes quoting = cascade
+takes mapping = Cascade
+takes reducing = Circuit
+takes quoting = Cascade
+
+-- what a job puts out for a text that it accepts: a circuit text, or a count of gates
+pub data Output : Type 0 where
+  as-text as-count : Output
+
+abbrev pub output : Job → Output
+output mapping = as-text
+output reducing = as-text
+output quoting = as-count
+
+-- the job that answers a text of this kind with a circuit text
+abbrev pub writes : Kind → Job
+writes Cascade = mapping
+writes Circuit = reducing
 
 -- what a job is given: the text, the lent gate list, the lent answer area (quote is lent none: its area is empty here)
 pub record Entry : Type 0 where
@@ -71,17 +87,22 @@ judged k e = judged-text k (e .text) (length (e .list))
 unfoldable pub filled : List Gate → List Gate → List Gate
 filled r l = r ++ replicate (length l - length r) (Not 0)
 
+-- with this count and this area
+abbrev pub success : Entry → List Gate → ℕ → List ℕ → Exit
+success e r n a = record { number = 0; line = 0; count = n; list = filled r (e .list); area = a }
+
 -- "The answer area holds that list as a circuit text, at its front, its other bytes unchanged": s is the text of the list r
 unfoldable pub written : Entry → List Gate → List ℕ → Exit
 written e r s =
-    cond (ltb (length (e .area)) (length s)) (refusal ShortAnswer 0 e)
-    (record { number = 0; line = 0; count = length s; list = filled r (e .list); area = s ++ drop (length s) (e .area) })
+    cond (ltb (length (e .area)) (length s)) (refusal ShortAnswer 0 e) (success e r (length s) (s ++ drop (length s) (e .area)))
 
 -- the answer by the reduced list r: "bytes written for map and reduce, gates for quote"
+abbrev pub put-out : Output → Entry → Head → List Gate → Exit
+put-out as-text e h r = written e r (circuit-text (h .lines) r)
+put-out as-count e h r = success e r (length r) (e .area)
+
 unfoldable pub answered : Job → Entry → Head → List Gate → Exit
-answered mapping e h r = written e r (circuit-text (h .lines) r)
-answered reducing e h r = written e r (circuit-text (h .lines) r)
-answered quoting e h r = record { number = 0; line = 0; count = length r; list = filled r (e .list); area = e .area }
+answered j e h r = put-out (output j) e h r
 
 -- ---- what a job says
 

@@ -1,3 +1,4 @@
+-- The definitions of this crate, in reading order.
 pub mod Jobs
 pub mod Demands
 pub mod Examples

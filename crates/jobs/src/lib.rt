@@ -5,18 +5,18 @@ use loading::Verdict;
 use records::Done;
 use records::Outcome;
 use text::Head;
+use text::Kind;
 use text::Refusal;
 ghost use mathlib.Core.Path.{_≡_};
 ghost use mathlib.Core.Bool.{cond};
 ghost use mathlib.Core.List.{[]};
 ghost use Prim.Native.Nat.{_≤_};
 ghost use lib.Dec.{leb};
-ghost use lib.ListN.{length, take};
-ghost use Rattle.gates.specs.Code.{AllCodes};
-ghost use Rattle.text.specs.Judging.{cascade, circuit, first};
+ghost use lib.ListN.{length};
+ghost use Rattle.text.specs.Judging.{first};
 ghost use Rattle.loading.specs.Seen.{seen-verdict};
 ghost use Rattle.loading.specs.Loaded.{LoadsTo};
-ghost use Rattle.jobs.specs.Jobs.{mapping, reducing, quoting, size-rules, judged-text, Says};
+ghost use Rattle.jobs.specs.Jobs.{mapping, reducing, quoting, writes, size-rules, judged-text, Says};
 ghost use Rattle.jobs.specs.Handing.{Hands, Own, refused, succeeded, written-done, written-area, text-done, text-area, count-done, Writable, Answerable};
 
 // How many records a refusal writes: none for 1 and 2, else all.
@@ -30,7 +30,7 @@ fn limit(number: u8, room: usize) -> usize
 }
 
 // A refusal, with its line.
-fn refuse(r: Refusal, line: usize, room: usize, codes: [u16; 4096]) -> Done
+fn refuse(r: Refusal, line: usize, room: usize, codes: [u16; 4162]) -> Done
     ensures { λ d. ⌜ d ≡ refused r line room codes ⌝ }
 {
     let number = text::number(r);
@@ -48,7 +48,7 @@ fn refuse(r: Refusal, line: usize, room: usize, codes: [u16; 4096]) -> Done
 }
 
 // Success, with the first m codes and a count.
-fn succeed(m: usize, count: usize, room: usize, codes: [u16; 4096]) -> Done
+fn succeed(m: usize, count: usize, room: usize, codes: [u16; 4162]) -> Done
     ensures { λ d. ⌜ d ≡ succeeded m count room codes ⌝ }
 {
     let outcome = Outcome {
@@ -65,7 +65,7 @@ fn succeed(m: usize, count: usize, room: usize, codes: [u16; 4096]) -> Done
 }
 
 // The first m codes written as a circuit text, where the answer area has room for it.
-fn answer_text(head: Head, m: usize, room: usize, codes: [u16; 4096], answer: &mut [u8]) -> Done
+fn answer_text(head: Head, m: usize, room: usize, codes: [u16; 4162], answer: &mut [u8]) -> Done
     requires { ⌜ Writable head m codes ⌝ }
     ensures { λ d. ⌜ (d ≡ written-done head m room codes (now (answer .entry))) × (now (answer .exit) ≡ written-area head m codes (now (answer .entry))) ⌝ }
 {
@@ -78,7 +78,7 @@ fn answer_text(head: Head, m: usize, room: usize, codes: [u16; 4096], answer: &m
 }
 
 // The answer of map and reduce, by what the text was loaded as.
-fn answer_loaded(loaded: Loaded, room: usize, codes: [u16; 4096], answer: &mut [u8]) -> Done
+fn answer_loaded(loaded: Loaded, room: usize, codes: [u16; 4162], answer: &mut [u8]) -> Done
     requires { ⌜ Answerable loaded codes ⌝ }
     ensures { λ d. ⌜ (d ≡ text-done loaded room codes (now (answer .entry))) × (now (answer .exit) ≡ text-area loaded codes (now (answer .entry))) ⌝ }
 {
@@ -89,7 +89,7 @@ fn answer_loaded(loaded: Loaded, room: usize, codes: [u16; 4096], answer: &mut [
 }
 
 // The answer of quote, by what the text was loaded as.
-fn count_loaded(loaded: Loaded, room: usize, codes: [u16; 4096]) -> Done
+fn count_loaded(loaded: Loaded, room: usize, codes: [u16; 4162]) -> Done
     ensures { λ d. ⌜ d ≡ count-done loaded room codes ⌝ }
 {
     match loaded {
@@ -111,52 +111,46 @@ fn size_rules(size: usize, room: usize) -> Verdict
     Verdict::Keeps
 }
 
-// Loads a cascade text, where the gate list has `room` records.
-fn take_cascade(text: &[u8], room: usize, codes: &mut [u16]) -> Loaded
-    requires { ⌜ 4096 ≤ length (now codes) ⌝ }
-    ensures { λ r. ⌜ LoadsTo (judged-text cascade (now (text .entry)) room) (now (codes .exit)) r ⌝ }
+// Loads a text of this kind, where the gate list has `room` records.
+fn load_text(kind: Kind, text: &[u8], room: usize, codes: &mut [u16]) -> Loaded
+    requires { ⌜ 4162 ≤ length (now codes) ⌝ }
+    ensures { λ r. ⌜ LoadsTo (judged-text kind (now (text .entry)) room) (now (codes .exit)) r ⌝ }
 {
     if let Verdict::Breaks(r) = size_rules(text.len(), room) {
         return Loaded::Refused(r, 0);
     }
-    loading::load_cascade(text, codes)
+    loading::load(kind, text, codes)
 }
 
-// Loads a circuit text, where the gate list has `room` records.
-fn take_circuit(text: &[u8], room: usize, codes: &mut [u16]) -> Loaded
-    requires { ⌜ 4096 ≤ length (now codes) ⌝ }
-    ensures { λ r. ⌜ LoadsTo (judged-text circuit (now (text .entry)) room) (now (codes .exit)) r ⌝ }
+// The covered part of the job that answers a text of this kind with a circuit text.
+pub fn text_codes(kind: Kind, text: &[u8], room: usize, answer: &mut [u8]) -> Done
+    ensures { λ d. ⌜ Hands (writes kind) (now (text .entry)) room (now (answer .entry)) d (now (answer .exit)) ⌝ }
 {
-    if let Verdict::Breaks(r) = size_rules(text.len(), room) {
-        return Loaded::Refused(r, 0);
-    }
-    loading::load_circuit(text, codes)
+    let mut codes = [0u16; 4162];
+    let loaded = load_text(kind, text, room, &mut codes);
+    answer_loaded(loaded, room, codes, answer)
 }
 
 // The covered part of map.
-pub fn map_codes(text: &[u8], room: usize, answer: &mut [u8]) -> Done
+fn map_codes(text: &[u8], room: usize, answer: &mut [u8]) -> Done
     ensures { λ d. ⌜ Hands mapping (now (text .entry)) room (now (answer .entry)) d (now (answer .exit)) ⌝ }
 {
-    let mut codes = [0u16; 4096];
-    let loaded = take_cascade(text, room, &mut codes);
-    answer_loaded(loaded, room, codes, answer)
+    text_codes(Kind::Cascade, text, room, answer)
 }
 
 // The covered part of reduce.
-pub fn reduce_codes(text: &[u8], room: usize, answer: &mut [u8]) -> Done
+fn reduce_codes(text: &[u8], room: usize, answer: &mut [u8]) -> Done
     ensures { λ d. ⌜ Hands reducing (now (text .entry)) room (now (answer .entry)) d (now (answer .exit)) ⌝ }
 {
-    let mut codes = [0u16; 4096];
-    let loaded = take_circuit(text, room, &mut codes);
-    answer_loaded(loaded, room, codes, answer)
+    text_codes(Kind::Circuit, text, room, answer)
 }
 
 // The covered part of quote.
 pub fn quote_codes(text: &[u8], room: usize) -> Done
     ensures { λ d. ⌜ Hands quoting (now (text .entry)) room [] d [] ⌝ }
 {
-    let mut codes = [0u16; 4096];
-    let loaded = take_cascade(text, room, &mut codes);
+    let mut codes = [0u16; 4162];
+    let loaded = load_text(Kind::Cascade, text, room, &mut codes);
     count_loaded(loaded, room, codes)
 }
 

@@ -16,22 +16,26 @@ use Rattle.text.specs.declared.Head.{Head}
 use Rattle.expansion.specs.Written.{Written}
 use Rattle.expansion.proofs.Writing.{before, read}
 use Rattle.expansion.proofs.Circuits.{expansion-codes}
-use Rattle.reduction.specs.Bounds.{Bounds}
+use Rattle.reduction.specs.Bounds.{Bounded}
 use Rattle.reduction.specs.Pushed.{PushedAll}
+use Rattle.reduction.proofs.Places.{rest-bounds}
 use Rattle.loading.specs.Loaded.{Addable, Added}
+
+pub fits : {h : Head} {t : ℕ} {cs l : List ℕ} {n : ℕ} → Addable h t cs l n → n + length (expansion (h .lines) cs t) ≤ length l
+fits w = omega (arith, w .room, w .few)
 
 module _ {h : Head} {t : ℕ} {cs l m : List ℕ} {n j : ℕ} (w : Addable h t cs l n) (x : Written (expansion (h .lines) cs t) l n m j) where
   abbrev made : List Gate
   made = expansion (h .lines) cs t
 
   inside : n ≤ length l
-  inside = omega (arith, w .room)
+  inside = omega (arith, w .room, w .few)
 
   pub behind : n ≤ j
   behind = omega (arith, x .count)
 
-  pub within : length m ≡ length l → j ≤ length m
-  within e = omega (arith, x .count, w .room, e)
+  pub room : length m ≡ length l → 4162 ≤ length m
+  room e = omega (arith, w .room, e)
 
   pub few : j ≤ 4096
   few = omega (arith, x .count, w .few)
@@ -45,8 +49,8 @@ module _ {h : Head} {t : ℕ} {cs l m : List ℕ} {n j : ℕ} (w : Addable h t c
   pub still-normal : Normal (gates (take n m))
   still-normal = rw front (w .normal)
 
-  pub still-bounds : {last : List ℕ} → Bounds (take n l) last → Bounds (take n m) last
-  still-bounds b = rw front b
+  pub still-bounded : length m ≡ length l → Bounded m n
+  still-bounded e = rw (front, rest-bounds l m j few (w .room) e (x .rest)) (w .bounded)
 
   pushed-codes : take (j - n) (drop n m) ≡ map code made
   pushed-codes =
@@ -61,4 +65,5 @@ module _ {h : Head} {t : ℕ} {cs l m : List ℕ} {n j : ℕ} (w : Addable h t c
     pushed = p .pushed ∙ ap (λ (v : List ℕ). pushes (gates v) (gates (take (j - n) (drop n m)))) front ∙ ap (pushes (gates (take n l))) pushed-gates;
     within = omega (arith, p .within, x .count);
     codes = p .codes;
+    bounded = p .bounded;
   }

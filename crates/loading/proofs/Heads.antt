@@ -11,7 +11,8 @@ use Rattle.text.specs.declared.Refusal.the-variants.{Malformed, NoSuchLine}
 use Rattle.text.specs.declared.Head.{Head}
 use Rattle.text.specs.Text.{Form, lines, gate, mct}
 use Rattle.text.specs.Reading.{Got, got, none, parse, cut}
-use Rattle.text.specs.Judging.{Kind, turned-away, first, head-rules, or-else, judge-lines, judge-text, read-all, judge}
+use Rattle.text.specs.declared.Kind.{Kind}
+use Rattle.text.specs.Judging.{turned-away, first, head-rules, or-else, judge-lines, judge-text, read-all, judge}
 use Rattle.text.proofs.Cursor.{at-form, at-bad, at-end}
 use Rattle.reading.specs.Seen.{only-head}
 use Rattle.reading.proofs.Lines.{none-got}

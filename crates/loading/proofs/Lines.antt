@@ -10,7 +10,9 @@ use Rattle.text.specs.declared.Refusal.the-variants.{Malformed}
 use Rattle.text.specs.declared.Head.{Head}
 use Rattle.text.specs.Text.{Form, lines, gate, mct}
 use Rattle.text.specs.Reading.{Got, got, none, parse, cut}
-use Rattle.text.specs.Judging.{Kind, cascade, circuit, Judged, turned-away, gates, belongs, Found, sound, breaks, first, rules, or-else, judge-lines, read-all}
+use Rattle.text.specs.declared.Kind.{Kind}
+use Rattle.text.specs.declared.Kind.the-variants.{Cascade, Circuit}
+use Rattle.text.specs.Judging.{Judged, turned-away, gates, belongs, Found, sound, breaks, first, rules, or-else, judge-lines, read-all}
 use Rattle.text.proofs.Printed.{parse-sound}
 use Rattle.text.proofs.Cursor.{at-form, at-bad}
 use Rattle.text.proofs.Accepted.{Kept, keeps as rules-kept}
@@ -62,7 +64,7 @@ pub record Only (k : Kind) {B : Type 0} (only : Got Form → Got B) (form : B �
   pub in-kind : (x : Got Form) {b : B} {s : List ℕ} → only x ≡ got b s → x ≡ got (form b) s
   pub others : (f : Form) (s : List ℕ) → only (got f s) ≡ none → belongs k f ≡ false
 
-pub gate-lines : Only circuit only-gate gate
+pub gate-lines : Only Circuit only-gate gate
 gate-lines = record { in-kind = in-kind; others = others }
   where
     in-kind : (x : Got Form) {g : Gate} {s : List ℕ} → only-gate x ≡ got g s → x ≡ got (gate g) s
@@ -71,12 +73,12 @@ gate-lines = record { in-kind = in-kind; others = others }
     in-kind (got (mct cs t) r) e = absurd (unfold only-gate in none-got e)
     in-kind (got (gate g) r) e = unfold only-gate in cc
 
-    others : (f : Form) (s : List ℕ) → only-gate (got f s) ≡ none → belongs circuit f ≡ false
+    others : (f : Form) (s : List ℕ) → only-gate (got f s) ≡ none → belongs Circuit f ≡ false
     others (lines n) s e = unfold belongs in refl
     others (mct cs t) s e = unfold belongs in refl
     others (gate g) s e = absurd (unfold only-gate in none-got (sym e))
 
-pub mct-lines : Only cascade only-mct (λ p. mct (p .0) (p .1))
+pub mct-lines : Only Cascade only-mct (λ p. mct (p .0) (p .1))
 mct-lines = record { in-kind = in-kind; others = others }
   where
     in-kind : (x : Got Form) {p : List ℕ × ℕ} {s : List ℕ} → only-mct x ≡ got p s → x ≡ got (mct (p .0) (p .1)) s
@@ -85,7 +87,7 @@ mct-lines = record { in-kind = in-kind; others = others }
     in-kind (got (gate g) r) e = absurd (unfold only-mct in none-got e)
     in-kind (got (mct cs t) r) {p} {s} e = unfold only-mct in (let q : _≡_ {A = List ℕ × ℕ} (cs, t) p = cc in let u : r ≡ s = cc in rw (← q, u))
 
-    others : (f : Form) (s : List ℕ) → only-mct (got f s) ≡ none → belongs cascade f ≡ false
+    others : (f : Form) (s : List ℕ) → only-mct (got f s) ≡ none → belongs Cascade f ≡ false
     others (lines n) s e = unfold belongs in refl
     others (gate g) s e = unfold belongs in refl
     others (mct cs t) s e = absurd (unfold only-mct in none-got (sym e))

@@ -20,10 +20,14 @@ use Rattle.text.specs.declared.Refusal.{Refusal}
 use Rattle.text.specs.declared.Head.{Head}
 use Rattle.text.specs.Text.{Form, gate, mct}
 use Rattle.text.specs.Reading.{cut}
-use Rattle.text.specs.Judging.{Kind, cascade, circuit, Judged, turned-away, accepted, gates, most, controls, judge-lines, read-all}
+use Rattle.text.specs.declared.Kind.{Kind}
+use Rattle.text.specs.declared.Kind.the-variants.{Cascade, Circuit}
+use Rattle.text.specs.Judging.{Judged, turned-away, accepted, gates, most, controls, judge-lines, read-all}
 use Rattle.text.proofs.Cursor.{at-end}
 use Rattle.text.proofs.Accepted.{Kept, good-valid, expandable}
 use Rattle.reduction.specs.Pushed.{Pushable, Pushed}
+use Rattle.reduction.specs.Bounds.{Bounded}
+use Rattle.reduction.proofs.Bounding.{bounded-none}
 use Rattle.loading.specs.Seen.{keeps, fails, judge-line}
 use Rattle.cascades.specs.Expansion.{expansion, counts, Expandable}
 use Rattle.cascades.specs.Cascade.{Below}
@@ -64,10 +68,11 @@ pub record Loading (k : Kind) (h : Head) (j : Judged) (s l : List ℕ) (at befor
   pub valid : AllValid (h .lines) made
   pub list : gates-of (take n l) ≡ nf made
   pub codes : AllCodes 32 (take n l)
+  pub bounded : Bounded l n
   pub few : n ≤ total
 
-pub start : (k : Kind) (h : Head) (s l : List ℕ) (at : ℕ) → Loading k h (judge-lines k h 0 [] (read-all (cut (drop at s)))) s l at 0 0 0
-start k h s l at = record { made = []; judged = refl; count = refl; valid = tt; list = sym nf-nil; codes = tt; few = omega arith }
+pub start : (k : Kind) (h : Head) (s l : List ℕ) (at : ℕ) → 4162 ≤ length l → Loading k h (judge-lines k h 0 [] (read-all (cut (drop at s)))) s l at 0 0 0
+start k h s l at room = record { made = []; judged = refl; count = refl; valid = tt; list = sym nf-nil; codes = tt; bounded = bounded-none l room; few = omega arith }
 
 list-normal : {k : Kind} {h : Head} {j : Judged} {s l : List ℕ} {at before total n : ℕ} → Loading k h j s l at before total n → Normal (gates-of (take n l))
 unfolding nf
@@ -90,47 +95,49 @@ refused {k} {h} {j} {s} {l} {at} {before} {x = x} w a e q = sym (w .judged) ∙ 
 
 -- ---- a gate of a circuit
 
-module _ {h : Head} {j : Judged} {s l : List ℕ} {at before n : ℕ} {g : Gate} {r : List ℕ} (narrow : h .lines ≤ 32) (w : Loading circuit h j s l at before before n) (e : keeps (gate g) r ≡ judge-line circuit h before (w .made) (drop at s)) where
-  kept : Kept circuit h before (w .made) (gate g)
-  kept = line-kept circuit h before (w .made) (drop at s) (sym e)
+module _ {h : Head} {j : Judged} {s l : List ℕ} {at before n : ℕ} {g : Gate} {r : List ℕ} (narrow : h .lines ≤ 32) (w : Loading Circuit h j s l at before before n) (e : keeps (gate g) r ≡ judge-line Circuit h before (w .made) (drop at s)) where
+  kept : Kept Circuit h before (w .made) (gate g)
+  kept = line-kept Circuit h before (w .made) (drop at s) (sym e)
 
   one : AllValid (h .lines) (g ∷ [])
   unfolding gates
-  one = good-valid circuit (h .lines) (gate g) (kept .good)
+  one = good-valid Circuit (h .lines) (gate g) (kept .good)
 
   pub gate-few : before + 1 ≤ 4096
   unfolding most
   gate-few = kept .few
 
-  pub gate-pushable : 4096 ≤ length l → Pushable l n (code g)
+  pub gate-pushable : 4162 ≤ length l → Pushable l n (code g)
   gate-pushable room = record {
-    room = omega (arith, w .few, gate-few, room);
+    room = room;
     few = omega (arith, w .few, gate-few);
     codes = w .codes;
     normal = list-normal w;
+    bounded = w .bounded;
     code = code-code (omega arith) (valid-more narrow (one .0));
   }
 
-  pub gate-loaded : {l′ : List ℕ} {next m : ℕ} → r ≡ drop next s → at < length s → Pushed l n (code g) m l′ → Loading circuit h j s l′ next (before + 1) (before + 1) m
+  pub gate-loaded : {l′ : List ℕ} {next m : ℕ} → r ≡ drop next s → at < length s → Pushed l n (code g) m l′ → Loading Circuit h j s l′ next (before + 1) (before + 1) m
   unfolding gates
   gate-loaded {l′} {next} {m} d a p = record {
     made = w .made ++ (g ∷ []);
-    judged = sym (line-next circuit h before (w .made) s at a (e′ d)) ∙ w .judged;
+    judged = sym (line-next Circuit h before (w .made) s at a (e′ d)) ∙ w .judged;
     count = length-append (w .made) (g ∷ []) ∙ omega (arith, w .count);
     valid = all-valid-append (h .lines) (w .made) (g ∷ []) (w .valid) one;
     list = p .pushed ∙ ap (λ (x : Gate). push (gates-of (take n l)) x) (gate-code narrow (one .0)) ∙ ap (λ (v : List Gate). push v g) (w .list) ∙ sym (nf-snoc (w .made) g);
     codes = p .codes;
+    bounded = p .bounded;
     few = omega (arith, p .within, w .few);
   }
     where
-      e′ : r ≡ drop next s → keeps (gate g) (drop next s) ≡ judge-line circuit h before (w .made) (drop at s)
+      e′ : r ≡ drop next s → keeps (gate g) (drop next s) ≡ judge-line Circuit h before (w .made) (drop at s)
       e′ d = ap (keeps (gate g)) (sym d) ∙ e
 
 -- ---- an mct gate of a cascade
 
-module _ {h : Head} {j : Judged} {s l : List ℕ} {at before total n : ℕ} {a : Controls} {cs : List ℕ} {t : ℕ} {r : List ℕ} (narrow : h .lines ≤ 32) (w : Loading cascade h j s l at before total n) (g : a ≡ gathered cs) (e : keeps (mct cs t) r ≡ judge-line cascade h before (w .made) (drop at s)) where
-  mct-rules-kept : Kept cascade h before (w .made) (mct cs t)
-  mct-rules-kept = line-kept cascade h before (w .made) (drop at s) (sym e)
+module _ {h : Head} {j : Judged} {s l : List ℕ} {at before total n : ℕ} {a : Controls} {cs : List ℕ} {t : ℕ} {r : List ℕ} (narrow : h .lines ≤ 32) (w : Loading Cascade h j s l at before total n) (g : a ≡ gathered cs) (e : keeps (mct cs t) r ≡ judge-line Cascade h before (w .made) (drop at s)) where
+  mct-rules-kept : Kept Cascade h before (w .made) (mct cs t)
+  mct-rules-kept = line-kept Cascade h before (w .made) (drop at s) (sym e)
 
   abbrev circuit-of : List Gate
   circuit-of = expansion (h .lines) cs t
@@ -169,31 +176,33 @@ module _ {h : Head} {j : Judged} {s l : List ℕ} {at before total n : ℕ} {a :
   on-lines : Expandable (h .lines) cs t × Below (h .lines) cs
   on-lines = expandable (h .lines) cs t (mct-rules-kept .good)
 
-  pub mct-addable : 4096 ≤ length l → Addable h t (controls-of a) l n
+  pub mct-addable : 4162 ≤ length l → Addable h t (controls-of a) l n
   mct-addable room = rw are-controls (record {
     narrow = narrow;
     expandable = on-lines .0;
     below = on-lines .1;
-    room = omega (arith, w .few, w .count, room-left, room);
+    room = room;
     few = omega (arith, w .few, w .count, room-left);
     codes = w .codes;
     normal = list-normal w;
+    bounded = w .bounded;
   })
 
-  pub mct-loaded : {l′ : List ℕ} {next m x : ℕ} → r ≡ drop next s → at < length s → x ≡ getD counts (a .count) 0 → Added h t (controls-of a) l n m l′ → Loading cascade h j s l′ next (before + 1) (total + x) m
+  pub mct-loaded : {l′ : List ℕ} {next m x : ℕ} → r ≡ drop next s → at < length s → x ≡ getD counts (a .count) 0 → Added h t (controls-of a) l n m l′ → Loading Cascade h j s l′ next (before + 1) (total + x) m
   unfolding gates
   mct-loaded {l′} {next} {m} {x} d b q p₀ = record {
     made = w .made ++ circuit-of;
-    judged = sym (line-next cascade h before (w .made) s at b (e′ d)) ∙ w .judged;
+    judged = sym (line-next Cascade h before (w .made) s at b (e′ d)) ∙ w .judged;
     count = length-append (w .made) circuit-of ∙ omega (arith, w .count, gates-count, q);
-    valid = all-valid-append (h .lines) (w .made) circuit-of (w .valid) (good-valid cascade (h .lines) (mct cs t) (mct-rules-kept .good));
+    valid = all-valid-append (h .lines) (w .made) circuit-of (w .valid) (good-valid Cascade (h .lines) (mct cs t) (mct-rules-kept .good));
     list = p .pushed ∙ ap (λ (v : List Gate). pushes v circuit-of) (w .list) ∙ sym (nf-append (w .made) circuit-of);
     codes = p .codes;
+    bounded = p .bounded;
     few = omega (arith, p .within, w .few, gates-count, q);
   }
     where
       p : Added h t cs l n m l′
       p = subst (λ (ds : List ℕ). Added h t ds l n m l′) are-controls p₀
 
-      e′ : r ≡ drop next s → keeps (mct cs t) (drop next s) ≡ judge-line cascade h before (w .made) (drop at s)
+      e′ : r ≡ drop next s → keeps (mct cs t) (drop next s) ≡ judge-line Cascade h before (w .made) (drop at s)
       e′ d = ap (keeps (mct cs t)) (sym d) ∙ e

@@ -14,7 +14,8 @@ use Rattle.text.specs.declared.Refusal.{Refusal}
 use Rattle.text.specs.declared.Refusal.the-variants.{NoSuchLine, Crossed, Unsorted, TooWide, NoSpare, TooMany}
 use Rattle.text.specs.declared.Head.{Head}
 use Rattle.text.specs.Text.{gate, mct}
-use Rattle.text.specs.Judging.{cascade, circuit, Rule, rule, first, rules, controls, target, gates, belongs, most, any-from, rising}
+use Rattle.text.specs.declared.Kind.the-variants.{Cascade, Circuit}
+use Rattle.text.specs.Judging.{Rule, rule, first, rules, controls, target, gates, belongs, most, any-from, rising}
 use Rattle.meaning.specs.Pattern.{has}
 use Rattle.cascades.specs.Expansion.{expansion, counts}
 use Rattle.cascades.proofs.Counts.{expansion-count}
@@ -35,11 +36,11 @@ full before c g e =
     go true h = lt-ltb 4096 (before + 1) (omega (arith, leb-true 4096 before h))
     go false h = le-ltb 4096 (before + 1) (omega (arith, leb-false 4096 before h))
 
-pub not-rules : (h : Head) (t before : ℕ) (c : List Gate) → length c ≡ before → tried (leb (h .lines) t) false true false false (leb 4096 before) ≡ first (rules circuit h before c (gate (Not t)))
+pub not-rules : (h : Head) (t before : ℕ) (c : List Gate) → length c ≡ before → tried (leb (h .lines) t) false true false false (leb 4096 before) ≡ first (rules Circuit h before c (gate (Not t)))
 unfolding first rules belongs controls target gates any-from has rising most
 not-rules h t before c e = rw (full before c (Not t) e, or-false (leb (h .lines) t))
 
-pub powered-rules : (h : Head) (p d t before : ℕ) (c : List Gate) → length c ≡ before → tried (leb (h .lines) t || leb (h .lines) d) (eqb t d) true false false (leb 4096 before) ≡ first (rules circuit h before c (gate (Powered p d t)))
+pub powered-rules : (h : Head) (p d t before : ℕ) (c : List Gate) → length c ≡ before → tried (leb (h .lines) t || leb (h .lines) d) (eqb t d) true false false (leb 4096 before) ≡ first (rules Circuit h before c (gate (Powered p d t)))
 unfolding first rules belongs controls target gates any-from has rising most
 powered-rules h p d t before c e = rw (full before c (Powered p d t) e, or-false (leb (h .lines) d), or-false (eqb t d))
 
@@ -60,7 +61,7 @@ over-is n before c cs t w =
     rw (le-leb (length cs) 15 k, e)
 
 pub mct-rules : (h : Head) (cs : List ℕ) (t before : ℕ) (c : List Gate) {outside crossed : Bool} → outside ≡ any-from (h .lines) (t ∷ cs) → (outside ≡ false → crossed ≡ has t cs)
-    → tried outside crossed (rising cs) (ltb 15 (length cs)) (leb 3 (length cs) && eqb (h .lines) (length cs + 1)) (over before (length c) (length cs)) ≡ first (rules cascade h before c (mct cs t))
+    → tried outside crossed (rising cs) (ltb 15 (length cs)) (leb 3 (length cs) && eqb (h .lines) (length cs + 1)) (over before (length c) (length cs)) ≡ first (rules Cascade h before c (mct cs t))
 unfolding rules belongs controls target gates most
 mct-rules h cs t before c {outside} {crossed} o x =
     after NoSuchLine outside _ _ (λ p. ap (λ (b : Bool). first (rule Crossed b ∷ later (over before (length c) (length cs)))) (x p) ∙ after Crossed (has t cs) _ _ (λ _. unsorted))
@@ -77,7 +78,7 @@ mct-rules h cs t before c {outside} {crossed} o x =
 -- the tests on what was gathered of the controls
 pub mct-tried : (h : Head) (cs : List ℕ) (t before total : ℕ) (c : List Gate) (a : Controls) {outside crossed spareless many : Bool} → 1 ≤ h .lines → h .lines ≤ 32 → a ≡ gathered cs → length c ≡ total
     → outside ≡ (leb (h .lines) t || leb (h .lines) (a .largest)) → crossed ≡ getD (a .marks) t false → spareless ≡ (leb 3 (a .count) && eqb (h .lines) (a .count + 1)) → many ≡ over before total (a .count)
-    → tried outside crossed (a .rising) (ltb 15 (a .count)) spareless many ≡ first (rules cascade h before c (mct cs t))
+    → tried outside crossed (a .rising) (ltb 15 (a .count)) spareless many ≡ first (rules Cascade h before c (mct cs t))
 mct-tried h cs t before total c a {outside} {crossed} low high q l o x p m =
     rw (p, m, ap (λ (b : Controls). b .count) q ∙ count-is cs, ap (λ (b : Controls). b .rising) q ∙ rising-is cs, ← l) (mct-rules h cs t before c outside-is crossed-is)
   where

@@ -12,6 +12,7 @@ use Rattle.text.specs.declared.Head.{Head}
 use Rattle.text.specs.Judging.{Judged, turned-away, accepted}
 use Rattle.cascades.specs.Expansion.{expansion, Expandable}
 use Rattle.cascades.specs.Cascade.{Below}
+use Rattle.reduction.specs.Bounds.{Bounded}
 use Rattle.reading.specs.declared.Controls.{Controls}
 use Rattle.loading.specs.declared.Loaded.{Loaded}
 use Rattle.loading.specs.declared.Loaded.the-variants as loaded
@@ -41,13 +42,15 @@ pub record Addable (h : Head) (t : ℕ) (cs : List ℕ) (l : List ℕ) (n : ℕ)
   pub narrow : h .lines ≤ 32
   pub expandable : Expandable (h .lines) cs t
   pub below : Below (h .lines) cs
-  pub room : n + length (expansion (h .lines) cs t) ≤ length l
+  pub room : 4162 ≤ length l
   pub few : n + length (expansion (h .lines) cs t) ≤ 4096
   pub codes : AllCodes 32 (take n l)
   pub normal : Normal (gates (take n l))
+  pub bounded : Bounded l n
 
 -- the gates of its expansion pushed, in turn, onto the first n
 pub record Added (h : Head) (t : ℕ) (cs : List ℕ) (entry : List ℕ) (n r : ℕ) (exit : List ℕ) : Type 0 where
   pub pushed : gates (take r exit) ≡ pushes (gates (take n entry)) (expansion (h .lines) cs t)
   pub within : r ≤ n + length (expansion (h .lines) cs t)
   pub codes : AllCodes 32 (take r exit)
+  pub bounded : Bounded exit r

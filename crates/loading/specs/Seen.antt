@@ -12,7 +12,9 @@ use Rattle.text.specs.declared.Refusal.the-variants.{Malformed, NoSuchLine, Cro
 use Rattle.text.specs.declared.Head.{Head}
 use Rattle.text.specs.Text.{Form, gate, mct}
 use Rattle.text.specs.Reading.{Got, got, none, parse, cut}
-use Rattle.text.specs.Judging.{Kind, cascade, circuit, Found, sound, breaks, rule, first, rules, turned-away, judge, judge-lines, read-all}
+use Rattle.text.specs.declared.Kind.{Kind}
+use Rattle.text.specs.declared.Kind.the-variants.{Cascade, Circuit}
+use Rattle.text.specs.Judging.{Found, sound, breaks, rule, first, rules, turned-away, judge, judge-lines, read-all}
 use Rattle.reading.specs.declared.Controls.{Controls}
 use Rattle.reading.specs.Seen.{gathered}
 use Rattle.loading.specs.declared.Verdict.{Verdict}
@@ -39,7 +41,7 @@ tried outside crossed up wide spareless many =
 
 -- the verdict on a gate, after any circuit c of `before` gates
 abbrev pub GateVerdict : Head → Gate → ℕ → Verdict → Type 0
-GateVerdict h g before r = (c : List Gate) → length c ≡ before → seen-verdict r ≡ first (rules circuit h before c (gate g))
+GateVerdict h g before r = (c : List Gate) → length c ≡ before → seen-verdict r ≡ first (rules Circuit h before c (gate g))
 
 -- "257th mct, expansion past 4,096 gates with this line", for a gate with k controls, by the table of counts; more than 15 break rule 7
 unfoldable pub over : ℕ → ℕ → ℕ → Bool
@@ -47,7 +49,7 @@ over before total k = ltb 256 (before + 1) || (leb k 15 && ltb 4096 (total + get
 
 -- the verdict on an mct gate, after `before` mct gates that made any circuit c of `total` gates; of its controls cs there is what was gathered
 abbrev pub MctVerdict : Head → ℕ → Controls → ℕ → ℕ → Verdict → Type 0
-MctVerdict h t a before total r = (cs : List ℕ) (c : List Gate) → a ≡ gathered cs → length c ≡ total → seen-verdict r ≡ first (rules cascade h before c (mct cs t))
+MctVerdict h t a before total r = (cs : List ℕ) (c : List Gate) → a ≡ gathered cs → length c ≡ total → seen-verdict r ≡ first (rules Cascade h before c (mct cs t))
 
 -- ---- line 1
 
@@ -95,13 +97,13 @@ circuit-line-ahead s at before (circuit-line.Refused r l) = l ≡ before + 2
 
 -- so the line at a place was judged, after any circuit c of `before` gates
 abbrev pub CircuitLineOf : List ℕ → ℕ → Head → ℕ → CircuitLine → Type 0
-CircuitLineOf s at h before r = (c : List Gate) → length c ≡ before → seen-circuit-line s r ≡ judge-line circuit h before c (drop at s)
+CircuitLineOf s at h before r = (c : List Gate) → length c ≡ before → seen-circuit-line s r ≡ judge-line Circuit h before c (drop at s)
 
 -- the same of a line of a cascade, of whose controls cs there is what was gathered
 abbrev pub CascadeLineOf : List ℕ → ℕ → Head → ℕ → ℕ → Controls → MctAnswer → Type 0
 CascadeLineOf s at h before total a (mct-answer.Target t next) =
-    (cs : List ℕ) × (a ≡ gathered cs) × ((c : List Gate) → length c ≡ total → keeps (mct cs t) (drop next s) ≡ judge-line cascade h before c (drop at s))
-CascadeLineOf s at h before total a (mct-answer.Refused r l) = (c : List Gate) → length c ≡ total → fails r ≡ judge-line cascade h before c (drop at s)
+    (cs : List ℕ) × (a ≡ gathered cs) × ((c : List Gate) → length c ≡ total → keeps (mct cs t) (drop next s) ≡ judge-line Cascade h before c (drop at s))
+CascadeLineOf s at h before total a (mct-answer.Refused r l) = (c : List Gate) → length c ≡ total → fails r ≡ judge-line Cascade h before c (drop at s)
 
 abbrev pub cascade-line-ahead : List ℕ → ℕ → ℕ → MctAnswer → Type 0
 cascade-line-ahead s at before (mct-answer.Target t next) = (at < next) × (next ≤ length s)

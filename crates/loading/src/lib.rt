@@ -6,16 +6,17 @@ use reading::GateLine;
 use reading::HeadLine;
 use reading::MctEnd;
 use text::Head;
+use text::Kind;
 use text::Refusal;
 ghost use mathlib.Core.Path.{_≡_};
 ghost use mathlib.Core.Bool.{false, _&&_, _||_};
 ghost use mathlib.Core.List.{[]};
 ghost use Prim.Native.Nat.{_+_, _≤_};
 ghost use lib.Dec.{eqb, leb};
-ghost use lib.ListN.{length, take, drop, getD};
-ghost use Rattle.reduction.specs.Bounds.{Bounds};
+ghost use lib.ListN.{length, drop, getD};
 ghost use Rattle.text.specs.Reading.{cut};
-ghost use Rattle.text.specs.Judging.{cascade, circuit, judge, judge-lines, read-all};
+ghost use Rattle.text.specs.declared.Kind.the-variants.{Cascade, Circuit};
+ghost use Rattle.text.specs.Judging.{judge, judge-lines, read-all};
 ghost use Rattle.loading.specs.Seen.{seen-verdict, tried, over, GateVerdict, MctVerdict, HeadLineOf, CircuitLineOf, circuit-line-ahead, CascadeLineOf, cascade-line-ahead};
 ghost use Rattle.loading.specs.Loaded.{LoadsTo, controls-of, Addable, Added};
 
@@ -206,17 +207,16 @@ pub enum Loaded {
 fn load_gates(s: &[u8], from: usize, head: Head, list: &mut [u16]) -> Loaded
     requires { ⌜ from ≤ length (now s) ⌝ }
     requires { ⌜ (1 ≤ head .lines) × (head .lines ≤ 32) ⌝ }
-    requires { ⌜ 4096 ≤ length (now list) ⌝ }
-    ensures { λ r. ⌜ LoadsTo (judge-lines circuit head 0 [] (read-all (cut (drop from (now (s .entry)))))) (now (list .exit)) r ⌝ }
+    requires { ⌜ 4162 ≤ length (now list) ⌝ }
+    ensures { λ r. ⌜ LoadsTo (judge-lines Circuit head 0 [] (read-all (cut (drop from (now (s .entry)))))) (now (list .exit)) r ⌝ }
 {
     let mut at = from;
     let mut before = 0;
     let mut n = 0;
-    let mut last = [0u16; 66];
     while at < s.len() {
         match circuit_line(s, at, head, before) {
             CircuitLine::Gate(g, next) => {
-                n = reduction::push(list, &mut last, n, gates::encode(g));
+                n = reduction::push(list, n, gates::encode(g));
                 at = next;
                 before += 1;
             }
@@ -229,38 +229,35 @@ fn load_gates(s: &[u8], from: usize, head: Head, list: &mut [u16]) -> Loaded
 }
 
 // Expands an mct gate behind the first n codes, and pushes the gates of its expansion onto them.
-fn add_mct(head: Head, t: u8, a: Controls, list: &mut [u16], last: &mut [u16], n: usize) -> usize
+fn add_mct(head: Head, t: u8, a: Controls, list: &mut [u16], n: usize) -> usize
     requires { ⌜ a .count ≤ length (a .listed) ⌝ }
     requires { ⌜ Addable head t (controls-of a) (now list) n ⌝ }
-    requires { ⌜ Bounds (take n (now list)) (now last) ⌝ }
     ensures { λ r. ⌜ Added head t (controls-of a) (now (list .entry)) n r (now (list .exit)) ⌝ }
-    ensures { λ r. ⌜ Bounds (take r (now (list .exit))) (now (last .exit)) ⌝ }
 {
     let listed = a.listed;
     let k = a.count;
     let m = expansion::expand(head.lines, &listed[..k], t, list, n);
-    reduction::push_all(list, last, n, m)
+    reduction::push_all(list, n, m)
 }
 
 // Loads the lines of a cascade after line 1.
 fn load_mcts(s: &[u8], from: usize, head: Head, list: &mut [u16]) -> Loaded
     requires { ⌜ from ≤ length (now s) ⌝ }
     requires { ⌜ (1 ≤ head .lines) × (head .lines ≤ 32) ⌝ }
-    requires { ⌜ 4096 ≤ length (now list) ⌝ }
-    ensures { λ r. ⌜ LoadsTo (judge-lines cascade head 0 [] (read-all (cut (drop from (now (s .entry)))))) (now (list .exit)) r ⌝ }
+    requires { ⌜ 4162 ≤ length (now list) ⌝ }
+    ensures { λ r. ⌜ LoadsTo (judge-lines Cascade head 0 [] (read-all (cut (drop from (now (s .entry)))))) (now (list .exit)) r ⌝ }
 {
     let mut at = from;
     let mut before = 0;
     let mut total = 0;
     let mut kept = 0;
-    let mut last = [0u16; 66];
     while at < s.len() {
         let line = cascade_line(s, at, head, before, total);
         let answer = line.answer;
         let controls = line.controls;
         match answer {
             MctAnswer::Target(t, after) => {
-                kept = add_mct(head, t, controls, list, &mut last, kept);
+                kept = add_mct(head, t, controls, list, kept);
                 total += expansion::count(controls.count);
                 at = after;
                 before += 1;
@@ -304,56 +301,43 @@ fn head_line(s: &[u8], at: usize) -> HeadAnswer
     HeadAnswer::Head(head, next)
 }
 
-// Judges the circuit text from a place on, and leaves the codes of its reduced list at the front of the list.
-fn circuit_at(s: &[u8], at: usize, list: &mut [u16]) -> Loaded
-    requires { ⌜ (at ≤ length (now s)) × (4096 ≤ length (now list)) ⌝ }
-    ensures { λ r. ⌜ LoadsTo (judge circuit (drop at (now (s .entry)))) (now (list .exit)) r ⌝ }
+// Loads the lines of a text of a kind after line 1.
+fn load_lines(kind: Kind, s: &[u8], from: usize, head: Head, list: &mut [u16]) -> Loaded
+    requires { ⌜ from ≤ length (now s) ⌝ }
+    requires { ⌜ (1 ≤ head .lines) × (head .lines ≤ 32) ⌝ }
+    requires { ⌜ 4162 ≤ length (now list) ⌝ }
+    ensures { λ r. ⌜ LoadsTo (judge-lines kind head 0 [] (read-all (cut (drop from (now (s .entry)))))) (now (list .exit)) r ⌝ }
+{
+    reduction::clear_bounds(&mut list[4096..4162]);
+    match kind {
+        Kind::Cascade => load_mcts(s, from, head, list),
+        Kind::Circuit => load_gates(s, from, head, list),
+    }
+}
+
+// Judges the text of a kind from a place on, and leaves the codes of its circuit's reduced list at the front of the list.
+fn text_at(kind: Kind, s: &[u8], at: usize, list: &mut [u16]) -> Loaded
+    requires { ⌜ (at ≤ length (now s)) × (4162 ≤ length (now list)) ⌝ }
+    ensures { λ r. ⌜ LoadsTo (judge kind (drop at (now (s .entry)))) (now (list .exit)) r ⌝ }
 {
     match head_line(s, at) {
-        HeadAnswer::Head(head, next) => load_gates(s, next, head, list),
+        HeadAnswer::Head(head, next) => load_lines(kind, s, next, head, list),
         HeadAnswer::Refused(r, l) => Loaded::Refused(r, l),
     }
 }
 
-// Judges the cascade text from a place on, and leaves the codes of its expansion's reduced list at the front of the list.
-fn cascade_at(s: &[u8], at: usize, list: &mut [u16]) -> Loaded
-    requires { ⌜ (at ≤ length (now s)) × (4096 ≤ length (now list)) ⌝ }
-    ensures { λ r. ⌜ LoadsTo (judge cascade (drop at (now (s .entry)))) (now (list .exit)) r ⌝ }
+// Loads a text of a kind from where a reader stands.
+fn text_from<'a>(kind: Kind, r: Reader<'a>, list: &mut [u16]) -> Loaded
+    requires { ⌜ (r .place ≤ length (now (r .text))) × (4162 ≤ length (now list)) ⌝ }
+    ensures { λ o. ⌜ LoadsTo (judge kind (drop (r .entry .place) (now (r .entry .text)))) (now (list .exit)) o ⌝ }
 {
-    match head_line(s, at) {
-        HeadAnswer::Head(head, next) => load_mcts(s, next, head, list),
-        HeadAnswer::Refused(r, l) => Loaded::Refused(r, l),
-    }
+    text_at(kind, r.text, r.place, list)
 }
 
-// Loads a circuit text from where a reader stands.
-fn circuit_from<'a>(r: Reader<'a>, list: &mut [u16]) -> Loaded
-    requires { ⌜ (r .place ≤ length (now (r .text))) × (4096 ≤ length (now list)) ⌝ }
-    ensures { λ o. ⌜ LoadsTo (judge circuit (drop (r .entry .place) (now (r .entry .text)))) (now (list .exit)) o ⌝ }
+// Judges a text of a kind, and leaves the codes of its circuit's reduced list, read or expanded, at the front of the list.
+pub fn load(kind: Kind, s: &[u8], list: &mut [u16]) -> Loaded
+    requires { ⌜ 4162 ≤ length (now list) ⌝ }
+    ensures { λ r. ⌜ LoadsTo (judge kind (now (s .entry))) (now (list .exit)) r ⌝ }
 {
-    circuit_at(r.text, r.place, list)
-}
-
-// Loads a cascade text from where a reader stands.
-fn cascade_from<'a>(r: Reader<'a>, list: &mut [u16]) -> Loaded
-    requires { ⌜ (r .place ≤ length (now (r .text))) × (4096 ≤ length (now list)) ⌝ }
-    ensures { λ o. ⌜ LoadsTo (judge cascade (drop (r .entry .place) (now (r .entry .text)))) (now (list .exit)) o ⌝ }
-{
-    cascade_at(r.text, r.place, list)
-}
-
-// Judges a circuit text, and leaves the codes of its reduced list at the front of the list.
-pub fn load_circuit(s: &[u8], list: &mut [u16]) -> Loaded
-    requires { ⌜ 4096 ≤ length (now list) ⌝ }
-    ensures { λ r. ⌜ LoadsTo (judge circuit (now (s .entry))) (now (list .exit)) r ⌝ }
-{
-    circuit_from(reader::new(s), list)
-}
-
-// Judges a cascade text, and leaves the codes of its expansion's reduced list at the front of the list.
-pub fn load_cascade(s: &[u8], list: &mut [u16]) -> Loaded
-    requires { ⌜ 4096 ≤ length (now list) ⌝ }
-    ensures { λ r. ⌜ LoadsTo (judge cascade (now (s .entry))) (now (list .exit)) r ⌝ }
-{
-    cascade_from(reader::new(s), list)
+    text_from(kind, reader::new(s), list)
 }

@@ -1,3 +1,4 @@
+-- The definitions of this crate, in reading order.
 pub mod Amplitude
 pub mod Pattern
 pub mod State

@@ -1,3 +1,4 @@
-pub mod Answers
-pub mod Shape_rc
-pub mod Made_tc
+-- The laws and theorems of this crate, in reading order.
+pub mod Values
+pub mod Shape_krc
+pub mod Made_ktc

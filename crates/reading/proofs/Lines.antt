@@ -1,21 +1,17 @@
--- A line by its word: what the parser of text's Reading gives once it is known which word a line begins with. Assumes nothing.
+-- A line by its word: what the parser of text's Reading gives for each kind of line, told by the reader's parts. Assumes nothing.
 use mathlib.Core.Path.{_≡_, refl, sym, ap, _∙_}
-use mathlib.Core.Bool.{Bool, true, false, cond, not, _||_}
+use mathlib.Core.Bool.{Bool, true, false, cond, not, _&&_, _||_, and-eq-true-iff}
 use mathlib.Core.List.{List, [], _∷_}
-use Prim.Native.Nat.{ℕ, zero, suc, _≤_}
+use Prim.Native.Nat.{ℕ}
 use native.Mathlib.Omega.{arith}
 use lib.Dec.{eqb}
 use borrow.Author.Tests.{eq-eqb, eqb-true}
 use Rattle.gates.specs.declared.Gate.{Gate}
 use Rattle.gates.specs.declared.Gate.the-variants.{Not, Powered}
-use Rattle.text.specs.Text.{Form, lines, gate, mct, bytes, word}
-use Rattle.text.specs.Reading.{Got, got, none, bind, orElse, strip, tail, pair, list, many, lines-body, not-body, mct-body, powered-body, parse}
-use Rattle.reading.specs.declared.GateLine.{GateLine}
-use Rattle.reading.specs.declared.GateLine.the-variants as line
+use Rattle.text.specs.Text.{Form, lines, gate, mct, bytes}
+use Rattle.text.specs.Reading.{Got, got, none, bind, orElse, strip, num, tail, pair, control, list, many, lines-body, not-body, mct-body, powered-body, parse}
 use Rattle.reading.specs.declared.Controls.{Controls}
-use Rattle.reading.specs.declared.MctEnd.{MctEnd}
-use Rattle.reading.specs.declared.MctEnd.the-variants as end
-use Rattle.reading.specs.Seen.{only-head, only-gate, only-mct, gathered, all-gathered, with-gathered, after-controls, seen-target, seen-end, gate-ahead, mct-ahead}
+use Rattle.reading.specs.Seen.{only-head, only-gate, only-mct, gathered, all-gathered, with-gathered, delimited, two-after, or-powered}
 
 -- ---- a text begins with at most one of two words that differ at a place that both have
 
@@ -45,135 +41,178 @@ strip-differ (a ∷ v) (b ∷ w) (c ∷ s) r d e = go (strip-differ v w s r) (eq
         let i : a ≡ b = sym (eqb-true c a p) ∙ eqb-true c b q in
         f (rw (eq-eqb a b i) at d) h
 
--- ---- the parser, by the word
+-- ---- words, each with what stands after it
 
-pub parse-lines : (s r : List ℕ) → strip (bytes "(lines ") s ≡ got tt r → parse s ≡ lines-body r
-unfolding parse
-parse-lines s r e = rw e
+abbrev Rows : Type 0 → Type 0
+Rows B = List (List ℕ × (List ℕ → Got B))
 
-pub parse-not : (s r : List ℕ) → strip (bytes "(not ") s ≡ got tt r → parse s ≡ not-body r
-unfolding parse differ
-parse-not s r e = rw (strip-differ (bytes "(not ") (bytes "(lines ") s r refl e, e)
+-- the first word that fits decides
+by-word : {B : Type 0} → Rows B → List ℕ → Got B
+by-word [] s = none
+by-word (x ∷ t) s = orElse (strip (x .0) s) (λ _. x .1) (by-word t s)
 
-pub parse-powered : (p : ℕ) (s r : List ℕ) → 1 ≤ p → p ≤ 3 → strip (word p) s ≡ got tt r → parse s ≡ powered-body p r
-unfolding parse differ word
-parse-powered zero s r h k e = absurd (omega arith)
-parse-powered (suc zero) s r h k e =
-    rw (strip-differ (bytes "(v ") (bytes "(lines ") s r refl e, strip-differ (bytes "(v ") (bytes "(not ") s r refl e, strip-differ (bytes "(v ") (bytes "(cn ") s r refl e, e)
-parse-powered (suc (suc zero)) s r h k e =
-    rw (strip-differ (bytes "(cn ") (bytes "(lines ") s r refl e, strip-differ (bytes "(cn ") (bytes "(not ") s r refl e, e)
-parse-powered (suc (suc (suc zero))) s r h k e =
-    rw (strip-differ (bytes "(vp ") (bytes "(lines ") s r refl e, strip-differ (bytes "(vp ") (bytes "(not ") s r refl e, strip-differ (bytes "(vp ") (bytes "(cn ") s r refl e, strip-differ (bytes "(vp ") (bytes "(v ") s r refl e, e)
-parse-powered (suc (suc (suc (suc p)))) s r h k e = absurd (omega arith)
+-- the first word that fits with what stands after it
+by-line : {B : Type 0} → Rows B → List ℕ → Got B
+by-line [] s = none
+by-line (x ∷ t) s = orElse (bind (strip (x .0) s) (λ _. x .1)) got (by-line t s)
 
-pub parse-mct : (s r : List ℕ) → strip (bytes "(mct (") s ≡ got tt r → parse s ≡ mct-body r
-unfolding parse differ
-parse-mct s r e =
-    let w : List ℕ = bytes "(mct (" in
-    rw (strip-differ w (bytes "(lines ") s r refl e, strip-differ w (bytes "(not ") s r refl e, strip-differ w (bytes "(cn ") s r refl e, strip-differ w (bytes "(v ") s r refl e, strip-differ w (bytes "(vp ") s r refl e, e)
+others : {B : Type 0} → List ℕ → Rows B → Bool
+others w [] = true
+others w (x ∷ t) = differ w (x .0) && others w t
 
--- ---- lines of another kind
+apart : {B : Type 0} → Rows B → Bool
+apart [] = true
+apart (x ∷ t) = others (x .0) t && apart t
+
+no-other : {B : Type 0} (w s r : List ℕ) (t : Rows B) → strip w s ≡ got tt r → others w t ≡ true → by-line t s ≡ none
+unfolding others by-line
+no-other w s r [] e d = refl
+no-other w s r (x ∷ t) e d =
+    let h = and-eq-true-iff (differ w (x .0)) (others w t) .0 d in
+    rw (strip-differ w (x .0) s r (h .0) e) (no-other w s r t e (h .1))
+
+or-none : {B : Type 0} (g : Got B) → orElse g got none ≡ g
+or-none (got b s) = refl
+or-none none = refl
+
+word-line : {B : Type 0} (t : Rows B) (s : List ℕ) → apart t ≡ true → by-word t s ≡ by-line t s
+unfolding apart by-word by-line
+word-line [] s d = refl
+word-line (x ∷ t) s d =
+    let h = and-eq-true-iff (others (x .0) t) (apart t) .0 d in
+    go (word-line t s (h .1)) (h .0) (strip (x .0) s) refl
+  where
+    go : by-word t s ≡ by-line t s → others (x .0) t ≡ true → (g : Got (Unit {0})) → strip (x .0) s ≡ g → orElse g (λ _. x .1) (by-word t s) ≡ orElse (bind g (λ _. x .1)) got (by-line t s)
+    go h d none e = h
+    go h d (got tt r) e = rw (no-other (x .0) s r t e d) (sym (or-none (x .1 r)))
+
+-- ---- the parts of a line
+
+module _ {A B C : Type 0} where
+  -- a function goes below the first step of a parse
+  below : (f : Got B → Got C) → f none ≡ none → (g : Got A) (k : A → List ℕ → Got B) (l : A → List ℕ → Got C) → ((a : A) (r : List ℕ) → f (k a r) ≡ l a r) → f (bind g k) ≡ bind g l
+  below f missing (got a r) k l h = h a r
+  below f missing none k l h = missing
+
+  -- so do the steps after it
+  steps : (n : B → List ℕ → Got C) (g : Got A) (k : A → List ℕ → Got B) (l : A → List ℕ → Got C) → ((a : A) (r : List ℕ) → bind (k a r) n ≡ l a r) → bind (bind g k) n ≡ bind g l
+  steps n g k l h = below (λ x. bind x n) refl g k l h
+
+pub two-delimited : (w s : List ℕ) → two-after w s ≡ bind (delimited w [] s) (λ c r. bind (delimited (bytes " ") (bytes ")\n") r) (λ t. got (c, t)))
+unfolding two-after pair tail delimited strip
+two-delimited w s = sym (steps _ (strip w s) _ _ (λ _ r. steps _ (num r) _ _ (λ c q. steps _ (strip (bytes " ") q) _ _ (λ _ e. refl))))
+
+pub control-delimited : (s : List ℕ) → control s ≡ orElse {B = ℕ × Bool} (delimited [] (bytes " ") s) (λ c. got (c, true)) (bind (delimited [] (bytes ")") s) (λ c. got (c, false)))
+unfolding control delimited strip
+control-delimited s = go (num s)
+  where
+    ends : (c : ℕ) (g h : Got (Unit {0})) → orElse {B = ℕ × Bool} g (λ _. got (c, true)) (bind h (λ _. got (c, false))) ≡ orElse (bind g (λ _. got c)) (λ d. got (d, true)) (bind (bind h (λ _. got c)) (λ d. got (d, false)))
+    ends c (got a r) h = refl
+    ends c none (got a r) = refl
+    ends c none none = refl
+
+    go : (g : Got ℕ) → bind {B = ℕ × Bool} g (λ c r. orElse (strip (bytes " ") r) (λ _. got (c, true)) (bind (strip (bytes ")") r) (λ _. got (c, false))))
+        ≡ orElse (bind g (λ c r. bind (strip (bytes " ") r) (λ _. got c))) (λ c. got (c, true)) (bind (bind g (λ c r. bind (strip (bytes ")") r) (λ _. got c))) (λ c. got (c, false)))
+    go (got c r) = ends c (strip (bytes " ") r) (strip (bytes ")") r)
+    go none = refl
+
+-- ---- the lines of one kind
+
+abbrev powered : ℕ → ℕ × ℕ → Form
+powered p c = gate (Powered p (c .0) (c .1))
 
 module _ {B : Type 0} (only : Got Form → Got B) (missing : only none ≡ none) where
-  body-other : {A : Type 0} (form : A → Form) (g : Got A) → ((a : A) (r : List ℕ) → only (got (form a) r) ≡ none) → only (bind g (λ a. got (form a))) ≡ none
-  body-other form (got a r) h = h a r
-  body-other form none h = missing
+  -- what is kept of the forms that stand after a word
+  abbrev kept : {A : Type 0} → (List ℕ → Got A) → (A → Form) → List ℕ → Got B
+  kept p form s = bind (p s) (λ a r. only (got (form a) r))
 
-  lines-other : ((n : ℕ) (r : List ℕ) → only (got (lines n) r) ≡ none) → (s : List ℕ) → only (lines-body s) ≡ none
-  unfolding lines-body
-  lines-other h s = body-other lines (tail s) h
+  rows : Rows B
+  rows =
+      (bytes "(lines ", kept tail lines)
+      ∷ (bytes "(not ", kept tail (λ t. gate (Not t)))
+      ∷ (bytes "(cn ", kept pair (powered 2))
+      ∷ (bytes "(v ", kept pair (powered 1))
+      ∷ (bytes "(vp ", kept pair (powered 3))
+      ∷ (bytes "(mct (", kept many (λ p. mct (p .0) (p .1)))
+      ∷ []
 
-  not-other : ((g : Gate) (r : List ℕ) → only (got (gate g) r) ≡ none) → (s : List ℕ) → only (not-body s) ≡ none
-  unfolding not-body
-  not-other h s = body-other (λ t. gate (Not t)) (tail s) (λ t. h (Not t))
+  body : {A : Type 0} (p : List ℕ → Got A) (form : A → Form) (s : List ℕ) → only (bind (p s) (λ a. got (form a))) ≡ kept p form s
+  body p form s = below only missing (p s) _ _ (λ a r. refl)
 
-  powered-other : ((g : Gate) (r : List ℕ) → only (got (gate g) r) ≡ none) → (p : ℕ) (s : List ℕ) → only (powered-body p s) ≡ none
-  unfolding powered-body
-  powered-other h p s = body-other (λ c. gate (Powered p (c .0) (c .1))) (pair s) (λ c. h (Powered p (c .0) (c .1)))
+  row : {A : Type 0} (g : Got (Unit {0})) (p : List ℕ → Got A) (form : A → Form) {z : Got Form} {y : Got B} → only z ≡ y → only (orElse g (λ _ s. bind (p s) (λ a. got (form a))) z) ≡ orElse g (λ _. kept p form) y
+  row (got a s) p form h = body p form s
+  row none p form h = h
 
-  mct-other : ((cs : List ℕ) (t : ℕ) (r : List ℕ) → only (got (mct cs t) r) ≡ none) → (s : List ℕ) → only (mct-body s) ≡ none
-  unfolding mct-body
-  mct-other h s = body-other (λ p. mct (p .0) (p .1)) (many s) (λ p. h (p .0) (p .1))
+  last-row : {A : Type 0} (g : Got (Unit {0})) (p : List ℕ → Got A) (form : A → Form) → only (bind g (λ _ s. bind (p s) (λ a. got (form a)))) ≡ orElse g (λ _. kept p form) none
+  last-row (got a s) p form = body p form s
+  last-row none p form = missing
 
-  -- one word, and the next
-  either : (g : Got (Unit {0})) (body : List ℕ → Got Form) (z : Got Form) → ((r : List ℕ) → only (body r) ≡ none) → only z ≡ none → only (orElse g (λ _. body) z) ≡ none
-  either (got a r) body z h k = h r
-  either none body z h k = k
+  only-parse : (s : List ℕ) → only (parse s) ≡ by-line rows s
+  unfolding parse rows by-word apart others differ lines-body not-body powered-body mct-body
+  only-parse s =
+      row (strip (bytes "(lines ") s) tail lines
+      (row (strip (bytes "(not ") s) tail (λ t. gate (Not t))
+      (row (strip (bytes "(cn ") s) pair (powered 2)
+      (row (strip (bytes "(v ") s) pair (powered 1)
+      (row (strip (bytes "(vp ") s) pair (powered 3)
+      (last-row (strip (bytes "(mct (") s) many (λ p. mct (p .0) (p .1)))))))
+      ∙ word-line rows s refl
 
-  -- the last word
-  last : (g : Got (Unit {0})) (body : List ℕ → Got Form) → ((r : List ℕ) → only (body r) ≡ none) → only (bind g (λ _. body)) ≡ none
-  last (got a r) body h = h r
-  last none body h = missing
-
-pub no-head : (s : List ℕ) → strip (bytes "(lines ") s ≡ none → only-head (parse s) ≡ none
-unfolding parse only-head
-no-head s e =
-    let gates : (g : Gate) (r : List ℕ) → only-head (got (gate g) r) ≡ none = λ g r. refl in
-    rw e
-    (either only-head refl (strip (bytes "(not ") s) not-body _ (not-other only-head refl gates)
-    (either only-head refl (strip (bytes "(cn ") s) (powered-body 2) _ (powered-other only-head refl gates 2)
-    (either only-head refl (strip (bytes "(v ") s) (powered-body 1) _ (powered-other only-head refl gates 1)
-    (either only-head refl (strip (bytes "(vp ") s) (powered-body 3) _ (powered-other only-head refl gates 3)
-    (last only-head refl (strip (bytes "(mct (") s) mct-body (mct-other only-head refl (λ cs t r. refl)))))))
-
-pub no-gate : (s : List ℕ) → strip (bytes "(not ") s ≡ none → strip (bytes "(cn ") s ≡ none → strip (bytes "(v ") s ≡ none → strip (bytes "(vp ") s ≡ none → only-gate (parse s) ≡ none
-unfolding parse only-gate
-no-gate s e₁ e₂ e₃ e₄ =
-    rw (e₁, e₂, e₃, e₄)
-    (either only-gate refl (strip (bytes "(lines ") s) lines-body _ (lines-other only-gate refl (λ n r. refl))
-    (last only-gate refl (strip (bytes "(mct (") s) mct-body (mct-other only-gate refl (λ cs t r. refl))))
-
-pub no-mct : (s : List ℕ) → strip (bytes "(mct (") s ≡ none → only-mct (parse s) ≡ none
-unfolding parse only-mct
-no-mct s e =
-    let gates : (g : Gate) (r : List ℕ) → only-mct (got (gate g) r) ≡ none = λ g r. refl in
-    rw e
-    (either only-mct refl (strip (bytes "(lines ") s) lines-body _ (lines-other only-mct refl (λ n r. refl))
-    (either only-mct refl (strip (bytes "(not ") s) not-body _ (not-other only-mct refl gates)
-    (either only-mct refl (strip (bytes "(cn ") s) (powered-body 2) _ (powered-other only-mct refl gates 2)
-    (either only-mct refl (strip (bytes "(v ") s) (powered-body 1) _ (powered-other only-mct refl gates 1)
-    (either only-mct refl (strip (bytes "(vp ") s) (powered-body 3) _ (powered-other only-mct refl gates 3) refl)))))
-
--- ---- the rest of an mct line: what is gathered of its controls, then its target
-
-mct-many : (s : List ℕ) → only-mct (mct-body s) ≡ many s
-unfolding mct-body only-mct
-mct-many s = go (many s)
+-- a row of another kind
+other-row : {A B : Type 0} (g : Got (Unit {0})) (p : List ℕ → Got A) (z : Got B) → orElse (bind g (λ _ s. bind {B = B} (p s) (λ _ _. none))) got z ≡ z
+other-row {A} {B} (got a s) p z = go (p s)
   where
-    go : (g : Got (List ℕ × ℕ)) → only-mct (bind g (λ p. got (mct (p .0) (p .1)))) ≡ g
-    go (got p r) = refl
+    go : (h : Got A) → orElse (bind {B = B} h (λ _ _. none)) got z ≡ z
+    go (got a r) = refl
     go none = refl
+other-row none p z = refl
 
-many-gathered : (s : List ℕ) → with-gathered (many s) ≡ bind (all-gathered (list s)) (λ a r. bind (after-controls r) (λ t. got (a, t)))
-unfolding many with-gathered all-gathered after-controls
-many-gathered s = go (list s)
+-- a row of the kind
+own-row : {A B : Type 0} (g : Got (Unit {0})) (p : List ℕ → Got A) (k : A → B) (z : Got B) → orElse (bind g (λ _ s. bind (p s) (λ a. got (k a)))) got z ≡ orElse (bind g (λ _. p)) (λ a. got (k a)) z
+own-row {A} (got a s) p k z = go (p s)
   where
-    targets : (cs : List ℕ) (g : Got ℕ) → with-gathered (bind g (λ t. got (cs, t))) ≡ bind g (λ t. got (gathered cs, t))
-    targets cs (got t r) = refl
-    targets cs none = refl
-
-    spaces : (cs : List ℕ) (g : Got (Unit {0})) → with-gathered (bind g (λ _ r. bind (tail r) (λ t. got (cs, t)))) ≡ bind (bind g (λ _. tail)) (λ t. got (gathered cs, t))
-    spaces cs (got a r) = targets cs (tail r)
-    spaces cs none = refl
-
-    go : (g : Got (List ℕ)) → with-gathered (bind g (λ cs r. bind (strip (bytes " ") r) (λ _ q. bind (tail q) (λ t. got (cs, t))))) ≡ bind (all-gathered g) (λ a r. bind (after-controls r) (λ t. got (a, t)))
-    go (got cs r) = spaces cs (strip (bytes " ") r)
+    go : (h : Got A) → orElse (bind h (λ a. got (k a))) got z ≡ orElse h (λ a. got (k a)) z
+    go (got a r) = refl
     go none = refl
+own-row none p k z = refl
 
-pub mct-gathered : (s : List ℕ) → with-gathered (only-mct (mct-body s)) ≡ bind (all-gathered (list s)) (λ a r. bind (after-controls r) (λ t. got (a, t)))
-mct-gathered s = ap with-gathered (mct-many s) ∙ many-gathered s
+pub head-is : (s : List ℕ) → only-head (parse s) ≡ orElse (delimited (bytes "(lines ") (bytes ")\n") s) (λ n. got (record { lines = n })) none
+unfolding only-head by-line rows delimited tail
+head-is s = only-parse only-head refl s ∙ simp (other-row, own-row)
 
--- the target, beside what is kept of the controls
-pub end-target : (s : List ℕ) (l : MctEnd) (a : Controls) → seen-end s l a ≡ bind (seen-target s l) (λ t. got (a, t))
-end-target s (end.Target t next) a = refl
-end-target s end.Malformed a = refl
+-- three rows of the kind, the first got before the others are tried
+in-turn : {B : Type 0} (x y z : Got B) → orElse x got (orElse y got (orElse z got none)) ≡ orElse (orElse x got y) got z
+in-turn (got a s) y z = refl
+in-turn none (got a s) z = refl
+in-turn none none z = or-none z
 
--- ---- a line from an earlier place on
+module _ (s : List ℕ) where
+  -- the row of a power, and how the reader takes it
+  abbrev powered-row : List ℕ → ℕ → Got Gate
+  powered-row w p = bind (strip w s) (λ _ r. bind (pair r) (λ c. got (Powered p (c .0) (c .1))))
 
-pub gate-later : (s : List ℕ) (at p : ℕ) (l : GateLine) → at ≤ p → gate-ahead s p l → gate-ahead s at l
-gate-later s at p (line.Is g next) h k = (omega arith, k .1)
-gate-later s at p line.Malformed h k = tt
+  abbrev powered-read : List ℕ → ℕ → Got Gate
+  powered-read w p = bind (two-after w s) (λ c. got (Powered p (c .0) (c .1)))
 
-pub mct-later : (s : List ℕ) (at p : ℕ) (l : MctEnd) → at ≤ p → mct-ahead s p l → mct-ahead s at l
-mct-later s at p (end.Target t next) h k = (omega arith, k .1)
-mct-later s at p end.Malformed h k = tt
+  row-read : (w : List ℕ) (p : ℕ) → powered-row w p ≡ powered-read w p
+  unfolding two-after
+  row-read w p = sym (steps _ (strip w s) _ _ (λ _ r. refl))
+
+  pub gate-is : only-gate (parse s) ≡ orElse (delimited (bytes "(not ") (bytes ")\n") s) (λ t. got (Not t)) (or-powered (or-powered (or-powered none (bytes "(cn ") 2 s) (bytes "(v ") 1 s) (bytes "(vp ") 3 s)
+  unfolding only-gate by-line rows delimited tail or-powered
+  gate-is =
+      only-parse only-gate refl s
+      ∙ simp other-row
+      (own-row (strip (bytes "(not ") s) tail Not _
+      ∙ ap (λ (z : Got Gate). orElse (bind (strip (bytes "(not ") s) (λ _. tail)) (λ t. got (Not t)) z)
+      (in-turn (powered-row (bytes "(cn ") 2) (powered-row (bytes "(v ") 1) (powered-row (bytes "(vp ") 3) ∙ rw (row-read (bytes "(cn ") 2, row-read (bytes "(v ") 1, row-read (bytes "(vp ") 3)))
+
+many-gathered : (s : List ℕ) → bind {B = Controls × ℕ} (many s) (λ p. got (gathered (p .0), p .1)) ≡ bind (all-gathered (list s)) (λ a r. bind (delimited (bytes " ") (bytes ")\n") r) (λ t. got (a, t)))
+unfolding many all-gathered delimited tail
+many-gathered s =
+    steps _ (list s) _ _ (λ cs r. steps _ (strip (bytes " ") r) _ _ (λ _ q. steps _ (tail q) _ _ (λ t e. refl)))
+    ∙ sym (steps _ (list s) _ _ (λ cs r. steps _ (strip (bytes " ") r) _ _ (λ _ q. refl)))
+
+pub mct-is : (s : List ℕ) → with-gathered (only-mct (parse s)) ≡ bind (strip (bytes "(mct (") s) (λ _ r. bind (all-gathered (list r)) (λ a q. bind (delimited (bytes " ") (bytes ")\n") q) (λ t. got (a, t))))
+unfolding only-mct with-gathered by-line rows
+mct-is s = only-parse (λ g. with-gathered (only-mct g)) refl s ∙ simp other-row (or-none _ ∙ below (λ g. g) refl (strip (bytes "(mct (") s) _ _ (λ _ r. many-gathered r))

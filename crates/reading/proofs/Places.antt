@@ -1,14 +1,14 @@
 -- The parser of text's Reading at a place of a text: numbers and words, byte by byte. Assumes nothing.
-use mathlib.Core.Path.{_≡_, sym, ap, _∙_}
-use mathlib.Core.Bool.{true, false, and-false}
+use mathlib.Core.Path.{_≡_, refl, sym, ap, _∙_}
+use mathlib.Core.Bool.{Bool, true, false, cond, and-false}
 use mathlib.Core.List.{List}
 use Prim.Native.Nat.{ℕ, suc, _+_, _-_, _*_, _≤_, _<_}
 use native.Mathlib.Numerals.{add-one}
 use native.Mathlib.Omega.{arith}
 use lib.ListN.{length, drop, getD, drop-of-length-le}
 use lib.Seq.{drop-cons}
-use lib.Dec.{leb}
-use borrow.Author.Tests.{eq-eqb, ne-eqb, le-leb, lt-leb}
+use lib.Dec.{eqb, leb}
+use borrow.Author.Tests.{eq-eqb, ne-eqb, eqb-true, le-leb, lt-leb}
 use Rattle.text.specs.Reading.{got, none, digit, num, second, strip}
 
 -- ---- what a callee's answer tells, once it is known which it is
@@ -41,21 +41,30 @@ pub num-zero : (s : List ℕ) (at : ℕ) → at < length s → getD s at 0 ≡ 4
 unfolding num
 num-zero s at h e = rw (drop-cons s at 0 h, e, add-one at)
 
-pub num-more : (s : List ℕ) (at : ℕ) → at < length s → 48 ≤ getD s at 0 → getD s at 0 ≤ 57 → (getD s at 0 ≡ 48 → ⊥) → num (drop at s) ≡ second (getD s at 0 - 48) (drop (at + 1) s)
-unfolding num
-num-more s at h l k e = rw (drop-cons s at 0 h, digit-yes (getD s at 0) l k, ne-eqb (getD s at 0) 48 e, add-one at)
+-- a first digit
+module _ (s : List ℕ) (at : ℕ) (h : at < length s) (l : 48 ≤ getD s at 0) (k : getD s at 0 ≤ 57) where
+  num-digit : num (drop at s) ≡ cond (eqb (getD s at 0) 48) (got 0 (drop (at + 1) s)) (second (getD s at 0 - 48) (drop (at + 1) s))
+  unfolding num
+  num-digit = rw (drop-cons s at 0 h, digit-yes (getD s at 0) l k, add-one at)
 
-pub second-end : (d : ℕ) (s : List ℕ) (p : ℕ) → length s ≤ p → second d (drop p s) ≡ got d (drop p s)
-unfolding second
-second-end d s p h = rw (drop-of-length-le s h)
+  num-single : second (getD s at 0 - 48) (drop (at + 1) s) ≡ got (getD s at 0 - 48) (drop (at + 1) s) → num (drop at s) ≡ got (getD s at 0 - 48) (drop (at + 1) s)
+  num-single e = num-digit ∙ go (eqb (getD s at 0) 48) refl
+    where
+      go : (x : Bool) → eqb (getD s at 0) 48 ≡ x → cond x (got 0 (drop (at + 1) s)) (second (getD s at 0 - 48) (drop (at + 1) s)) ≡ got (getD s at 0 - 48) (drop (at + 1) s)
+      go true q = rw (eqb-true (getD s at 0) 48 q)
+      go false q = e
 
-pub second-other : (d : ℕ) (s : List ℕ) (p : ℕ) → p < length s → digit (getD s p 0) ≡ false → second d (drop p s) ≡ got d (drop p s)
-unfolding second
-second-other d s p h e = rw (drop-cons s p 0 h, e)
+  pub num-last : length s ≤ at + 1 → num (drop at s) ≡ got (getD s at 0 - 48) (drop (at + 1) s)
+  unfolding second
+  num-last g = num-single (rw (drop-of-length-le s g))
 
-pub second-yes : (d : ℕ) (s : List ℕ) (p : ℕ) → p < length s → 48 ≤ getD s p 0 → getD s p 0 ≤ 57 → second d (drop p s) ≡ got (d * 10 + (getD s p 0 - 48)) (drop (p + 1) s)
-unfolding second
-second-yes d s p h l k = rw (drop-cons s p 0 h, digit-yes (getD s p 0) l k, add-one p)
+  pub num-one : at + 1 < length s → digit (getD s (at + 1) 0) ≡ false → num (drop at s) ≡ got (getD s at 0 - 48) (drop (at + 1) s)
+  unfolding second
+  num-one g d = num-single (rw (drop-cons s (at + 1) 0 g, d))
+
+  pub num-two : (getD s at 0 ≡ 48 → ⊥) → at + 1 < length s → 48 ≤ getD s (at + 1) 0 → getD s (at + 1) 0 ≤ 57 → num (drop at s) ≡ got ((getD s at 0 - 48) * 10 + (getD s (at + 1) 0 - 48)) (drop (at + 1 + 1) s)
+  unfolding second
+  num-two e g i j = num-digit ∙ rw (ne-eqb (getD s at 0) 48 e, drop-cons s (at + 1) 0 g, digit-yes (getD s (at + 1) 0) i j, add-one (at + 1))
 
 -- ---- words
 

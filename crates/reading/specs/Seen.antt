@@ -1,13 +1,15 @@
 -- What the reader's answers say, in the terms of the parser in text's Reading. Assumes nothing.
+use mathlib.Core.Path.{_≡_}
 use Prim.Native.Nat.{ℕ, _+_, _≤_, _<_, max}
 use mathlib.Core.Bool.{Bool, true, false, _&&_, _||_}
 use mathlib.Core.List.{List, [], _∷_}
 use lib.ListN.{length, drop, set, replicate}
 use lib.Dec.{eqb, ltb}
 use Rattle.gates.specs.declared.Gate.{Gate}
+use Rattle.gates.specs.declared.Gate.the-variants.{Powered}
 use Rattle.text.specs.declared.Head.{Head}
-use Rattle.text.specs.Text.{Form, lines, gate, mct, bytes}
-use Rattle.text.specs.Reading.{Got, got, none, bind, strip, tail}
+use Rattle.text.specs.Text.{Form, lines, gate, mct}
+use Rattle.text.specs.Reading.{Got, got, none, bind, orElse, strip, num, pair}
 use Rattle.reading.specs.declared.Number.{Number}
 use Rattle.reading.specs.declared.Number.the-variants as number
 use Rattle.reading.specs.declared.Found.{Found}
@@ -17,7 +19,6 @@ use Rattle.reading.specs.declared.Pair.the-variants as two
 use Rattle.reading.specs.declared.Control.{Control}
 use Rattle.reading.specs.declared.Control.the-variants as control
 use Rattle.reading.specs.declared.Controls.{Controls}
-use Rattle.reading.specs.declared.Bracketed.{Bracketed}
 use Rattle.reading.specs.declared.GateLine.{GateLine}
 use Rattle.reading.specs.declared.GateLine.the-variants as gate-line
 use Rattle.reading.specs.declared.MctEnd.{MctEnd}
@@ -75,35 +76,49 @@ unfoldable pub with-gathered : Got (List ℕ × ℕ) → Got (Controls × ℕ)
 with-gathered none = none
 with-gathered (got p s) = got (gathered (p .0), p .1) s
 
--- after the bracket of the controls: a space, `t)` and the line's end
-unfoldable pub after-controls : List ℕ → Got ℕ
-after-controls s = bind (strip (bytes " ") s) (λ _. tail)
+-- ---- parts of a line after a word
 
--- ---- the answers, over the text s: what was got, and the bytes after the place
+-- a number between fixed bytes: w before it, v after it
+unfoldable pub delimited : List ℕ → List ℕ → List ℕ → Got ℕ
+delimited w v s = bind (strip w s) (λ _ r. bind (num r) (λ x q. bind (strip v q) (λ _. got x)))
 
-abbrev pub seen-number : List ℕ → Number → Got ℕ
-seen-number s (number.Is x next) = got x (drop next s)
-seen-number s number.Missing = none
+-- `c t)` and the line's end, after w
+unfoldable pub two-after : List ℕ → List ℕ → Got (ℕ × ℕ)
+two-after w s = bind (strip w s) (λ _. pair)
 
-abbrev pub seen-found : List ℕ → Found → Got (Unit {0})
-seen-found s (found.At next) = got tt (drop next s)
-seen-found s found.Missing = none
+-- what was got before, else the gate of the power p after its word w
+unfoldable pub or-powered : Got Gate → List ℕ → ℕ → List ℕ → Got Gate
+or-powered before w p s = orElse before got (bind (two-after w s) (λ c. got (Powered p (c .0) (c .1))))
 
-abbrev pub seen-pair : List ℕ → Pair → Got (ℕ × ℕ)
-seen-pair s (two.Are c t next) = got (c, t) (drop next s)
-seen-pair s two.Missing = none
+-- ---- the place only moves forward and stays within the text
 
-abbrev pub seen-control : List ℕ → Control → Got (ℕ × Bool)
-seen-control s (control.More c next) = got (c, true) (drop next s)
-seen-control s (control.Last c next) = got (c, false) (drop next s)
-seen-control s control.Missing = none
+abbrev pub ahead : List ℕ → ℕ → ℕ → Type 0
+ahead s at next = (at < next) × (next ≤ length s)
 
-abbrev pub seen-bracketed : List ℕ → Bracketed → Got Controls
-seen-bracketed s g = bind (seen-found s (g .end)) (λ _. got (g .controls))
+-- ---- what an answer tells of the parse g from the place at of the text s on: what was got, and the place after it
 
-abbrev pub seen-target : List ℕ → MctEnd → Got ℕ
-seen-target s (mct-end.Target t next) = got t (drop next s)
-seen-target s mct-end.Malformed = none
+abbrev pub reached : {A : Type 0} → List ℕ → ℕ → Got A → A → ℕ → Type 0
+reached s at g a next = (g ≡ got a (drop next s)) × ahead s at next
+
+abbrev pub number-tells : List ℕ → ℕ → Got ℕ → Number → Type 0
+number-tells s at g (number.Is x next) = reached s at g x next
+number-tells s at g number.Missing = g ≡ none
+
+abbrev pub pair-tells : List ℕ → ℕ → Got (ℕ × ℕ) → Pair → Type 0
+pair-tells s at g (two.Are c t next) = reached s at g (c, t) next
+pair-tells s at g two.Missing = g ≡ none
+
+abbrev pub control-tells : List ℕ → ℕ → Got (ℕ × Bool) → Control → Type 0
+control-tells s at g (control.More c next) = reached s at g (c, true) next
+control-tells s at g (control.Last c next) = reached s at g (c, false) next
+control-tells s at g control.Missing = g ≡ none
+
+-- the place alone, where a is got
+abbrev pub found-tells : {A : Type 0} → List ℕ → ℕ → Got A → A → Found → Type 0
+found-tells s at g a (found.At next) = (g ≡ got a (drop next s)) × (at ≤ next) × (next ≤ length s)
+found-tells s at g a found.Missing = g ≡ none
+
+-- ---- the lines, over the text s: what was got, and the bytes after the place
 
 abbrev pub seen-head : List ℕ → HeadLine → Got Head
 seen-head s (head-line.Is h next) = got h (drop next s)
@@ -120,33 +135,16 @@ seen-end s mct-end.Malformed a = none
 abbrev pub seen-mct : List ℕ → MctLine → Got (Controls × ℕ)
 seen-mct s l = seen-end s (l .end) (l .controls)
 
--- ---- the place only moves forward and stays within the text; numbers are below 100
-
-abbrev pub number-ahead : List ℕ → ℕ → Number → Type 0
-number-ahead s at (number.Is x next) = (x < 100) × (at < next) × (next ≤ length s)
-number-ahead s at number.Missing = Unit {0}
-
-abbrev pub found-ahead : List ℕ → ℕ → Found → Type 0
-found-ahead s at (found.At next) = (at ≤ next) × (next ≤ length s)
-found-ahead s at found.Missing = Unit {0}
-
-abbrev pub pair-ahead : List ℕ → ℕ → Pair → Type 0
-pair-ahead s at (two.Are c t next) = (c < 100) × (t < 100) × (at < next) × (next ≤ length s)
-pair-ahead s at two.Missing = Unit {0}
-
-abbrev pub control-ahead : List ℕ → ℕ → Control → Type 0
-control-ahead s at (control.More c next) = (c < 100) × (at < next) × (next ≤ length s)
-control-ahead s at (control.Last c next) = (c < 100) × (at < next) × (next ≤ length s)
-control-ahead s at control.Missing = Unit {0}
+-- ---- where the lines end
 
 abbrev pub head-ahead : List ℕ → ℕ → HeadLine → Type 0
-head-ahead s at (head-line.Is h next) = (at < next) × (next ≤ length s)
+head-ahead s at (head-line.Is h next) = ahead s at next
 head-ahead s at head-line.Malformed = Unit {0}
 
 abbrev pub gate-ahead : List ℕ → ℕ → GateLine → Type 0
-gate-ahead s at (gate-line.Is g next) = (at < next) × (next ≤ length s)
+gate-ahead s at (gate-line.Is g next) = ahead s at next
 gate-ahead s at gate-line.Malformed = Unit {0}
 
 abbrev pub mct-ahead : List ℕ → ℕ → MctEnd → Type 0
-mct-ahead s at (mct-end.Target t next) = (at < next) × (next ≤ length s)
+mct-ahead s at (mct-end.Target t next) = ahead s at next
 mct-ahead s at mct-end.Malformed = Unit {0}

@@ -2,10 +2,10 @@
 ghost use mathlib.Core.Path.{_≡_};
 ghost use Prim.Native.Nat.{_+_, _≤_, _<_, _^_};
 ghost use lib.ListN.{length, drop};
-ghost use Rattle.text.specs.Reading.{num, strip, tail, pair, control, controls, list, parse, not-body, powered-body};
-ghost use Rattle.reading.specs.Seen.{only-head, only-gate, only-mct, noted, no-controls, all-gathered, with-gathered, after-controls};
-ghost use Rattle.reading.specs.Seen.{seen-number, seen-found, seen-pair, seen-control, seen-bracketed, seen-target, seen-head, seen-gate, seen-mct};
-ghost use Rattle.reading.specs.Seen.{number-ahead, found-ahead, pair-ahead, control-ahead, head-ahead, gate-ahead, mct-ahead};
+ghost use Rattle.text.specs.Reading.{num, strip, control, controls, list, parse};
+ghost use Rattle.reading.specs.Seen.{only-head, only-gate, only-mct, noted, no-controls, all-gathered, with-gathered, delimited, two-after, or-powered};
+ghost use Rattle.reading.specs.Seen.{number-tells, found-tells, pair-tells, control-tells};
+ghost use Rattle.reading.specs.Seen.{seen-head, seen-gate, seen-mct, head-ahead, gate-ahead, mct-ahead};
 use gates::Gate;
 
 // A number and the place after it.
@@ -75,8 +75,7 @@ pub enum HeadLine {
 
 // A number: one or two digits, the first of two no 0.
 fn one_number(s: &[u8], at: usize) -> Number
-    ensures { λ r. ⌜ seen-number (now (s .entry)) r ≡ num (drop at (now (s .entry))) ⌝ }
-    ensures { λ r. ⌜ number-ahead (now (s .entry)) at r ⌝ }
+    ensures { λ r. ⌜ number-tells (now (s .entry)) at (num (drop at (now (s .entry)))) r ⌝ }
 {
     if s.len() <= at {
         return Number::Missing;
@@ -108,8 +107,7 @@ fn one_number(s: &[u8], at: usize) -> Number
 // Fixed bytes at a place.
 fn word(s: &[u8], at: usize, w: &[u8]) -> Found
     requires { ⌜ at ≤ length (now s) ⌝ }
-    ensures { λ r. ⌜ seen-found (now (s .entry)) r ≡ strip (now (w .entry)) (drop at (now (s .entry))) ⌝ }
-    ensures { λ r. ⌜ found-ahead (now (s .entry)) at r ⌝ }
+    ensures { λ r. ⌜ found-tells (now (s .entry)) at (strip (now (w .entry)) (drop at (now (s .entry)))) tt r ⌝ }
 {
     let mut k = 0;
     while k < w.len() {
@@ -124,34 +122,32 @@ fn word(s: &[u8], at: usize, w: &[u8]) -> Found
     Found::At(at + k)
 }
 
-// `t)` and the line's end.
-fn last_number(s: &[u8], at: usize) -> Number
+// A number between fixed bytes: `w` before it, `v` after it.
+fn delimited_number(s: &[u8], at: usize, w: &[u8], v: &[u8]) -> Number
     requires { ⌜ at ≤ length (now s) ⌝ }
-    ensures { λ r. ⌜ seen-number (now (s .entry)) r ≡ tail (drop at (now (s .entry))) ⌝ }
-    ensures { λ r. ⌜ number-ahead (now (s .entry)) at r ⌝ }
+    ensures { λ r. ⌜ number-tells (now (s .entry)) at (delimited (now (w .entry)) (now (v .entry)) (drop at (now (s .entry)))) r ⌝ }
 {
-    let Number::Is(t, p) = one_number(s, at) else {
+    let Found::At(p) = word(s, at, w) else {
         return Number::Missing;
     };
-    let Found::At(q) = word(s, p, b")\n") else {
+    let Number::Is(x, q) = one_number(s, p) else {
         return Number::Missing;
     };
-    Number::Is(t, q)
+    let Found::At(e) = word(s, q, v) else {
+        return Number::Missing;
+    };
+    Number::Is(x, e)
 }
 
-// `c t)` and the line's end.
-fn two_numbers(s: &[u8], at: usize) -> Pair
+// Fixed bytes, then `c t)` and the line's end.
+fn two_numbers(s: &[u8], at: usize, w: &[u8]) -> Pair
     requires { ⌜ at ≤ length (now s) ⌝ }
-    ensures { λ r. ⌜ seen-pair (now (s .entry)) r ≡ pair (drop at (now (s .entry))) ⌝ }
-    ensures { λ r. ⌜ pair-ahead (now (s .entry)) at r ⌝ }
+    ensures { λ r. ⌜ pair-tells (now (s .entry)) at (two-after (now (w .entry)) (drop at (now (s .entry)))) r ⌝ }
 {
-    let Number::Is(c, p) = one_number(s, at) else {
+    let Number::Is(c, p) = delimited_number(s, at, w, b"") else {
         return Pair::Missing;
     };
-    let Found::At(q) = word(s, p, b" ") else {
-        return Pair::Missing;
-    };
-    let Number::Is(t, e) = last_number(s, q) else {
+    let Number::Is(t, e) = delimited_number(s, p, b" ", b")\n") else {
         return Pair::Missing;
     };
     Pair::Are(c, t, e)
@@ -160,16 +156,12 @@ fn two_numbers(s: &[u8], at: usize) -> Pair
 // A control, and the space or the bracket after it.
 fn one_control(s: &[u8], at: usize) -> Control
     requires { ⌜ at ≤ length (now s) ⌝ }
-    ensures { λ r. ⌜ seen-control (now (s .entry)) r ≡ control (drop at (now (s .entry))) ⌝ }
-    ensures { λ r. ⌜ control-ahead (now (s .entry)) at r ⌝ }
+    ensures { λ r. ⌜ control-tells (now (s .entry)) at (control (drop at (now (s .entry)))) r ⌝ }
 {
-    let Number::Is(c, p) = one_number(s, at) else {
-        return Control::Missing;
-    };
-    if let Found::At(q) = word(s, p, b" ") {
+    if let Number::Is(c, q) = delimited_number(s, at, b"", b" ") {
         return Control::More(c, q);
     }
-    let Found::At(q) = word(s, p, b")") else {
+    let Number::Is(c, q) = delimited_number(s, at, b"", b")") else {
         return Control::Missing;
     };
     Control::Last(c, q)
@@ -226,8 +218,7 @@ fn note(a: Controls, c: u8) -> Controls
 // The controls up to the bracket, of which there is at least one.
 fn gather(s: &[u8], at: usize) -> Bracketed
     requires { ⌜ at ≤ length (now s) ⌝ }
-    ensures { λ r. ⌜ seen-bracketed (now (s .entry)) r ≡ all-gathered (controls (length (drop at (now (s .entry)))) (drop at (now (s .entry)))) ⌝ }
-    ensures { λ r. ⌜ found-ahead (now (s .entry)) at (r .end) ⌝ }
+    ensures { λ r. ⌜ found-tells (now (s .entry)) at (all-gathered (controls (length (drop at (now (s .entry)))) (drop at (now (s .entry))))) (r .controls) (r .end) ⌝ }
 {
     let mut sum = no_controls();
     let mut p = at;
@@ -256,8 +247,7 @@ fn gather(s: &[u8], at: usize) -> Bracketed
 // The controls up to the bracket: none, or some.
 fn listed(s: &[u8], at: usize) -> Bracketed
     requires { ⌜ at ≤ length (now s) ⌝ }
-    ensures { λ r. ⌜ seen-bracketed (now (s .entry)) r ≡ all-gathered (list (drop at (now (s .entry)))) ⌝ }
-    ensures { λ r. ⌜ found-ahead (now (s .entry)) at (r .end) ⌝ }
+    ensures { λ r. ⌜ found-tells (now (s .entry)) at (all-gathered (list (drop at (now (s .entry))))) (r .controls) (r .end) ⌝ }
 {
     if let Found::At(p) = word(s, at, b")") {
         return Bracketed {
@@ -268,40 +258,17 @@ fn listed(s: &[u8], at: usize) -> Bracketed
     gather(s, at)
 }
 
-// ` t)` and the line's end, after the controls.
-fn target(s: &[u8], at: usize) -> MctEnd
+// The line found before, else the gate of a power after its word `w`.
+fn powered_line(s: &[u8], at: usize, w: &[u8], power: u8, before: GateLine) -> GateLine
     requires { ⌜ at ≤ length (now s) ⌝ }
-    ensures { λ r. ⌜ seen-target (now (s .entry)) r ≡ after-controls (drop at (now (s .entry))) ⌝ }
-    ensures { λ r. ⌜ mct-ahead (now (s .entry)) at r ⌝ }
-{
-    let Found::At(p) = word(s, at, b" ") else {
-        return MctEnd::Malformed;
-    };
-    let Number::Is(t, e) = last_number(s, p) else {
-        return MctEnd::Malformed;
-    };
-    MctEnd::Target(t, e)
-}
-
-// The rest of a line after `(not `.
-fn not_line(s: &[u8], at: usize) -> GateLine
-    requires { ⌜ at ≤ length (now s) ⌝ }
-    ensures { λ r. ⌜ seen-gate (now (s .entry)) r ≡ only-gate (not-body (drop at (now (s .entry)))) ⌝ }
+    requires { ⌜ gate-ahead (now s) at before ⌝ }
+    ensures { λ r. ⌜ seen-gate (now (s .entry)) r ≡ or-powered (seen-gate (now (s .entry)) before) (now (w .entry)) power (drop at (now (s .entry))) ⌝ }
     ensures { λ r. ⌜ gate-ahead (now (s .entry)) at r ⌝ }
 {
-    let Number::Is(t, e) = last_number(s, at) else {
-        return GateLine::Malformed;
+    let GateLine::Malformed = before else {
+        return before;
     };
-    GateLine::Is(Gate::Not(t), e)
-}
-
-// The rest of a line after the word of a power.
-fn powered_line(s: &[u8], at: usize, power: u8) -> GateLine
-    requires { ⌜ at ≤ length (now s) ⌝ }
-    ensures { λ r. ⌜ seen-gate (now (s .entry)) r ≡ only-gate (powered-body power (drop at (now (s .entry)))) ⌝ }
-    ensures { λ r. ⌜ gate-ahead (now (s .entry)) at r ⌝ }
-{
-    let Pair::Are(c, t, e) = two_numbers(s, at) else {
+    let Pair::Are(c, t, e) = two_numbers(s, at, w) else {
         return GateLine::Malformed;
     };
     GateLine::Is(Gate::Powered(power, c, t), e)
@@ -313,34 +280,24 @@ pub fn read_head(s: &[u8], at: usize) -> HeadLine
     ensures { λ r. ⌜ seen-head (now (s .entry)) r ≡ only-head (parse (drop at (now (s .entry)))) ⌝ }
     ensures { λ r. ⌜ head-ahead (now (s .entry)) at r ⌝ }
 {
-    let Found::At(p) = word(s, at, &text::LINES) else {
-        return HeadLine::Malformed;
-    };
-    let Number::Is(n, e) = last_number(s, p) else {
+    let Number::Is(n, e) = delimited_number(s, at, &text::LINES, b")\n") else {
         return HeadLine::Malformed;
     };
     HeadLine::Is(text::Head { lines: n }, e)
 }
 
-// A line of a circuit.
+// A line of a circuit: it begins with at most one of the four words.
 pub fn read_gate(s: &[u8], at: usize) -> GateLine
     requires { ⌜ at ≤ length (now s) ⌝ }
     ensures { λ r. ⌜ seen-gate (now (s .entry)) r ≡ only-gate (parse (drop at (now (s .entry)))) ⌝ }
     ensures { λ r. ⌜ gate-ahead (now (s .entry)) at r ⌝ }
 {
-    if let Found::At(p) = word(s, at, &text::NOT) {
-        return not_line(s, p);
+    if let Number::Is(t, e) = delimited_number(s, at, &text::NOT, b")\n") {
+        return GateLine::Is(Gate::Not(t), e);
     }
-    if let Found::At(p) = word(s, at, &text::CN) {
-        return powered_line(s, p, 2);
-    }
-    if let Found::At(p) = word(s, at, &text::V) {
-        return powered_line(s, p, 1);
-    }
-    if let Found::At(p) = word(s, at, &text::VP) {
-        return powered_line(s, p, 3);
-    }
-    GateLine::Malformed
+    let cn = powered_line(s, at, &text::CN, 2, GateLine::Malformed);
+    let v = powered_line(s, at, &text::V, 1, cn);
+    powered_line(s, at, &text::VP, 3, v)
 }
 
 // A line of a cascade.
@@ -364,8 +321,14 @@ pub fn read_mct(s: &[u8], at: usize) -> MctLine
             controls,
         };
     };
+    let Number::Is(t, e) = delimited_number(s, q, b" ", b")\n") else {
+        return MctLine {
+            end: MctEnd::Malformed,
+            controls,
+        };
+    };
     MctLine {
-        end: target(s, q),
+        end: MctEnd::Target(t, e),
         controls,
     }
 }

@@ -10,10 +10,10 @@ pub struct Outcome {
     pub count: usize,
 }
 
-// What the covered part of a job hands over: the codes of the gates for the front of the list, how many these are, how many
-// records are written, and the outcome.
+// What the covered part of a job hands over: the slice with the codes of the gates for the front of the list (4,096 places for codes, and 66 for
+// the bounds that the reduction keeps behind them), how many codes these are, how many records are written, and the outcome.
 pub struct Done {
-    pub codes: [u16; 4096],
+    pub codes: [u16; 4162],
     pub gates: usize,
     pub limit: usize,
     pub outcome: Outcome,

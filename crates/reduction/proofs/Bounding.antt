@@ -1,17 +1,18 @@
--- The bounds beside a list, where a gate enters it, leaves it or merges. Assumes nothing.
-use mathlib.Core.Path.{_≡_, refl, ap, _∙_}
-use mathlib.Core.List.{List, [], _∷_}
+-- The bounds of a list, where a gate enters it, leaves it or merges. Assumes nothing.
+use mathlib.Core.Path.{_≡_, refl, sym, ap, _∙_}
+use mathlib.Core.List.{List, _∷_}
 use Prim.Native.Nat.{ℕ, suc, _+_, _-_, _/_, _%_, _≤_, _<_}
 use native.Mathlib.Omega.{arith}
 use native.Mathlib.Decide.{ℕ-discrete, decLt}
-use lib.ListN.{length, take, drop, getD, set, length-drop, length-set, List·getD-eq-default}
-use lib.Seq.{paste, length-paste, length-take-le, getD-take, getD-drop, getD-set-same, getD-set-other, take-set-lt}
-use Rattle.reduction.specs.Bounds.{Bounds, Each, Raised, Noted, Lowered}
+use lib.ListN.{length, take, drop, getD, set, replicate, length-drop, length-set, getD-replicate, List·getD-eq-default}
+use lib.Seq.{paste, length-paste, length-take-le, getD-take, getD-drop, getD-set-same, getD-set-other, take-set-lt, ext-getD}
+use Rattle.reduction.specs.Bounds.{Bounds, Bounded, Moved, Each, Raised, Noted}
 use Rattle.reduction.proofs.Shift.{read-before, read-in}
+use Rattle.reduction.proofs.Places.{bounds-size}
 
--- an empty list has any bounds
-pub bounds-none : (last : List ℕ) → length last ≡ 66 → Bounds [] last
-bounds-none last e = record { size = e; target = λ j h. absurd (omega arith); control = λ j h. absurd (omega arith) }
+-- no gates have any bounds
+pub bounded-none : (l : List ℕ) → 4162 ≤ length l → Bounded l 0
+bounded-none l h = record { size = bounds-size l h; target = λ j k. absurd (omega arith); control = λ j k. absurd (omega arith) }
 
 -- ---- the bounds changed, one a turn
 
@@ -43,6 +44,36 @@ module _ (R : ℕ → ℕ → Type 0) (L : List ℕ) where
         go : (j : ℕ) → Dec (j < k) → R (getD L j 0) (getD l j 0)
         go j (yes b) = w .below j b
         go j (no b) = let e = List·getD-eq-default L 0 {n = j} (omega arith) in rw (w .above j (omega arith), e) z
+
+-- all of them set to 0
+pub cleared-all : (L l : List ℕ) (k : ℕ) → length L ≡ 66 → 66 ≤ k → Changing (λ x y. y ≡ 0) k L l → l ≡ replicate 66 0
+cleared-all L l k s h w =
+    let e : length l ≡ 66 = w .size ∙ s in
+    ext-getD 0 l (replicate 66 0) e (λ j b. w .below j (omega arith) ∙ sym (getD-replicate 66 j 0 0 (omega arith)))
+
+-- none is moved where there is none
+pub moved-none : (i n up down : ℕ) → Moved i n up down 0 0
+moved-none i n up down = record { within = λ h. absurd (omega arith); below = λ h. omega arith; above = λ h. omega arith }
+
+-- bounds moved up are raised, and a bound moved down is less by one at most
+moved-up : (i n x y : ℕ) → Moved i n 1 0 x y → Raised i n x y
+moved-up i n x y m = record { kept = go (decLt i x) (decLt n x); moved = λ h k. omega (arith, m .within h k) }
+  where
+    go : Dec (i < x) → Dec (n < x) → x ≤ y
+    go (no h) k = m .below (omega arith)
+    go (yes h) (yes k) = m .above k
+    go (yes h) (no k) = omega (arith, m .within h (omega arith))
+
+moved-down : (i n x y : ℕ) → Moved i n 0 1 x y → x ≤ y + 1
+moved-down i n x y m = go (decLt i x) (decLt n x)
+  where
+    go : Dec (i < x) → Dec (n < x) → x ≤ y + 1
+    go (no h) k = omega (arith, m .below (omega arith))
+    go (yes h) (yes k) = omega (arith, m .above k)
+    go (yes h) (no k) = omega (arith, m .within h (omega arith))
+
+pub all-raised : (i n : ℕ) (L l : List ℕ) → Each (Moved i n 1 0) L l → Each (Raised i n) L l
+all-raised i n L l w = record { size = w .size; each = λ k. moved-up i n (getD L k 0) (getD l k 0) (w .each k) }
 
 -- a bound raised further
 raised-further : (i n : ℕ) (L l : List ℕ) (k y : ℕ) → Each (Raised i n) L l → k < length l → getD l k 0 ≤ y → Each (Raised i n) L (set l k y)
@@ -133,25 +164,25 @@ module _ (L : List ℕ) (n i : ℕ) (h : n ≤ length L) (b : i < n) (M : List �
       ∙ getD-drop (i + 1) L (j - i) 0
       ∙ ap (λ (x : ℕ). getD L x 0) p
 
-  module _ (last last′ : List ℕ) (r : Each (Lowered i) last last′) (f : ℕ → ℕ) (old : (j : ℕ) → j < length (take n L) → j < getD last (f (getD (take n L) j 0)) 0) where
+  module _ (last last′ : List ℕ) (r : Each (Moved i n 0 1) last last′) (f : ℕ → ℕ) (old : (j : ℕ) → j < length (take n L) → j < getD last (f (getD (take n L) j 0)) 0) where
     stood : (j : ℕ) → j < n → j < getD last (f (getD L j 0)) 0
     stood j k = rw (getD-take n L j 0 k) at (old j (rw (length-take-le n L h) k))
 
     stays : (j : ℕ) → j < i → j < getD last′ (f (getD L j 0)) 0
     stays j k = go (stood j (omega arith)) (r .each (f (getD L j 0))) (decLt i (getD last (f (getD L j 0)) 0))
       where
-        go : {x y : ℕ} → j < x → Lowered i x y → Dec (i < x) → j < y
-        go l t (yes d) = omega (arith, t .moved)
-        go l t (no d) = omega (arith, t .kept (omega arith))
+        go : {x y : ℕ} → j < x → Moved i n 0 1 x y → Dec (i < x) → j < y
+        go {x} {y} l t (yes d) = omega (arith, moved-down i n x y t)
+        go l t (no d) = omega (arith, t .below (omega arith))
 
     gone-bound : (j : ℕ) → j < length (take (n - 1) M) → j < getD last′ (f (getD (take (n - 1) M) j 0)) 0
     gone-bound j k₀ = let k : j < n - 1 = rw (length-take-le (n - 1) M gone-length) at k₀ in rw (getD-take (n - 1) M j 0 k) (go k (decLt j i))
       where
         go : j < n - 1 → Dec (j < i) → j < getD last′ (f (getD M j 0)) 0
         go k (yes d) = rw (gone-before j d) (stays j d)
-        go k (no d) = rw (gone-after j (omega arith) k) (omega (arith, stood (j + 1) (omega arith), r .each (f (getD L (j + 1) 0)) .moved))
+        go k (no d) = rw (gone-after j (omega arith) k) (omega (arith, stood (j + 1) (omega arith), moved-down i n _ _ (r .each (f (getD L (j + 1) 0)))))
 
-  pub bounds-gone : (last last′ : List ℕ) → Bounds (take n L) last → Each (Lowered i) last last′ → Bounds (take (n - 1) M) last′
+  pub bounds-gone : (last last′ : List ℕ) → Bounds (take n L) last → Each (Moved i n 0 1) last last′ → Bounds (take (n - 1) M) last′
   bounds-gone last last′ w t = record {
     size = t .size ∙ w .size;
     target = gone-bound last last′ t (λ x. x / 132 + 1) (w .target);

@@ -1,32 +1,38 @@
--- What a push leaves in a slice: the partner gone, the partner's power changed, or the gate put in at its place. Assumes nothing.
+-- What a push leaves in a slice, but for the bounds: the partner gone, the partner's power changed, or the gate put in at its place. Assumes
+-- nothing.
 use mathlib.Core.Path.{_≡_, sym, ap, _∙_}
 use mathlib.Core.List.{List, [], _∷_, _++_}
 use Prim.Native.Nat.{ℕ, suc, _+_, _-_, _≤_, _<_}
 use native.Mathlib.Omega.{arith}
 use lib.ListN.{length, take, drop, getD, set, length-drop}
-use lib.Seq.{paste, take-paste, drop-paste, take-take, take-add, drop-drop, drop-at, take-set-lt, set-split, drop-set-lt, length-take-le}
+use lib.Seq.{paste, take-paste, drop-paste, take-take, drop-drop, take-set-lt, set-split, drop-set-lt, length-take-le}
 use Rattle.gates.specs.declared.Gate.{Gate}
 use Rattle.gates.specs.Code.{gate, gates, Code, AllCodes}
 use Rattle.gates.proofs.CodeLists.{gates-append, all-codes-append, all-codes-take, all-codes-drop, code-at}
 use Rattle.gates.proofs.Sites.{passes-self}
 use Rattle.gates.proofs.Merge.{merged}
 use Rattle.gates.proofs.Push.{push}
-use Rattle.gates.proofs.Normal.{normal-push}
+use Rattle.gates.proofs.Normal.{Normal, normal-push}
 use Rattle.reduction.specs.Partner.{Meets, Enters}
-use Rattle.reduction.specs.Pushed.{Pushable, Pushed}
+use Rattle.reduction.specs.Pushed.{Pushable}
 use Rattle.reduction.proofs.Numbers.{total, joined, merged-none, merged-one, code-joined}
 use Rattle.reduction.proofs.Search.{front-at, push-at}
+use Rattle.reduction.proofs.Places.{drop-take}
 
--- the elements from a on, of the first a + m
-drop-take : (L : List ℕ) (a m : ℕ) → a ≤ length L → drop a (take (a + m) L) ≡ take m (drop a L)
-drop-take L a m h = ap (λ (x : List ℕ). drop a x) (take-add a m L) ∙ drop-at (take a L) (take m (drop a L)) a (length-take-le a L h)
+-- no place after n has changed
+pub record Stacked (entry : List ℕ) (n g r : ℕ) (exit : List ℕ) : Type 0 where
+  pub pushed : gates (take r exit) ≡ push (gates (take n entry)) (gate g)
+  pub within : r ≤ n + 1
+  pub codes : AllCodes 32 (take r exit)
+  pub normal : Normal (gates (take r exit))
+  pub rest : drop (n + 1) exit ≡ drop (n + 1) entry
 
 -- ---- the three outcomes
 
 module _ (L : List ℕ) (n g : ℕ) (w : Pushable L n g) where
   -- the list is made of three parts, and so is what the push gives
   made : (M : List ℕ) (r : ℕ) (u x v : List ℕ) → take r M ≡ u ++ (x ++ v) → push (gates (take n L)) (gate g) ≡ gates u ++ (gates x ++ gates v)
-      → AllCodes 32 u → AllCodes 32 x → AllCodes 32 v → r ≤ n + 1 → drop (n + 1) M ≡ drop (n + 1) L → Pushed L n g r M
+      → AllCodes 32 u → AllCodes 32 x → AllCodes 32 v → r ≤ n + 1 → drop (n + 1) M ≡ drop (n + 1) L → Stacked L n g r M
   made M r u x v e p a b c k d =
       let q : gates (take r M) ≡ push (gates (take n L)) (gate g) =
       ap (λ (y : List ℕ). gates y) e ∙ gates-append u (x ++ v) ∙ ap (λ (y : List Gate). gates u ++ y) (gates-append x v) ∙ sym p in
@@ -57,7 +63,7 @@ module _ (L : List ℕ) (n g : ℕ) (w : Pushable L n g) where
     unfolding other
     pushed-at = push-at (take n L) g i (passes-self (w .code .valid)) (w .normal) m
 
-    pub outcome-gone : (M : List ℕ) → total (getD L i 0) g ≡ 0 → M ≡ paste L i (drop (i + 1) L) (n - (i + 1)) → Pushed L n g (n - 1) M
+    pub outcome-gone : (M : List ℕ) → total (getD L i 0) g ≡ 0 → M ≡ paste L i (drop (i + 1) L) (n - (i + 1)) → Stacked L n g (n - 1) M
     unfolding other
     outcome-gone M z q =
         let lt : i < n = inner in
@@ -77,7 +83,7 @@ module _ (L : List ℕ) (n g : ℕ) (w : Pushable L n g) where
         (all-codes-take 32 i (take n L) (w .codes)) tt (all-codes-drop 32 (suc i) (take n L) (w .codes)) (omega arith)
         (rw n2 (sym (drop-drop 2 (i + k) M) ∙ ap (λ (y : List ℕ). drop 2 y) d ∙ drop-drop 2 (i + k) L))
 
-    pub outcome-merged : (total (getD L i 0) g ≡ 0 → ⊥) → Pushed L n g n (set L i (joined (getD L i 0) g))
+    pub outcome-merged : (total (getD L i 0) g ≡ 0 → ⊥) → Stacked L n g n (set L i (joined (getD L i 0) g))
     unfolding other
     outcome-merged z =
         let lt : i < n = inner in
@@ -90,7 +96,7 @@ module _ (L : List ℕ) (n g : ℕ) (w : Pushable L n g) where
         (all-codes-take 32 i (take n L) (w .codes)) (rw e at (code-joined other g code-other (w .code) (m .site) za), tt) (all-codes-drop 32 (suc i) (take n L) (w .codes)) (omega arith)
         (drop-set-lt (n + 1) L i x (omega arith))
 
-  pub outcome-entered : (M : List ℕ) (i : ℕ) → Enters (take n L) g i → M ≡ paste L i (g ∷ drop i L) (n - i + 1) → Pushed L n g (n + 1) M
+  pub outcome-entered : (M : List ℕ) (i : ℕ) → Enters (take n L) g i → M ≡ paste L i (g ∷ drop i L) (n - i + 1) → Stacked L n g (n + 1) M
   outcome-entered M i p q =
       let S : List ℕ = g ∷ drop i L in
       let k : ℕ = n - i in

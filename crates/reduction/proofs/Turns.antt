@@ -3,8 +3,8 @@ use mathlib.Core.Path.{_≡_, refl, sym, ap, _∙_}
 use mathlib.Core.List.{List, [], _∷_, _++_}
 use Prim.Native.Nat.{ℕ, suc, _+_, _-_, _≤_, _<_}
 use native.Mathlib.Omega.{arith}
-use lib.ListN.{length, take, drop, getD, length-drop}
-use lib.Seq.{take-suc, take-take, drop-drop, getD-drop}
+use lib.ListN.{length, take, drop, getD, replicate, length-drop}
+use lib.Seq.{take-suc, take-take, getD-take, getD-drop}
 use Rattle.gates.specs.declared.Gate.{Gate}
 use Rattle.gates.specs.Code.{gate, gates, AllCodes}
 use Rattle.gates.proofs.CodeLists.{gates-append, all-codes-take, code-in-front}
@@ -12,31 +12,30 @@ use Rattle.gates.proofs.Push.{push}
 use Rattle.gates.proofs.Normal.{Normal}
 use Rattle.gates.proofs.Same.{pushes}
 use Rattle.gates.proofs.Theorem.{nf, pushes-append, nf-reduced}
-use Rattle.reduction.specs.Pushed.{Pushable, Pushed, PushedAll, ReducedTo}
+use Rattle.reduction.specs.Bounds.{Bounded}
+use Rattle.reduction.specs.Pushed.{Apart, Pushable, Pushed, PushedAll, ReducedTo}
+use Rattle.reduction.proofs.Places.{with-bounds, lent-front, lent-apart, lent-rest, apart-later, apart-more}
 
--- lists with the same rest have the same later rest
-drop-later : (x y : List ℕ) (a b : ℕ) → a ≤ b → drop a x ≡ drop a y → drop b x ≡ drop b y
-drop-later x y a b h e =
-    let k : a + (b - a) ≡ b = omega arith in
-    rw k at (sym (drop-drop (b - a) a x) ∙ ap (λ (z : List ℕ). drop (b - a) z) e ∙ drop-drop (b - a) a y)
-
-module _ (L : List ℕ) (n m : ℕ) (h : n ≤ m) (k : m ≤ length L) (top : m ≤ 4096) (cs : AllCodes 32 (take m L)) where
-  pub turns-start : Normal (gates (take n L)) → PushedAll L n n n L
-  turns-start w =
+module _ (L : List ℕ) (n m : ℕ) (h : n ≤ m) (top : m ≤ 4096) (k : 4162 ≤ length L) (cs : AllCodes 32 (take m L)) where
+  pub turns-start : Normal (gates (take n L)) → Bounded L n → PushedAll L n n n L
+  turns-start w b =
       let z : n - n ≡ 0 = omega arith in
       record {
         pushed = ap (λ (j : ℕ). pushes (gates (take n L)) (gates (take j (drop n L)))) (sym z);
         within = omega arith;
         codes = rw (take-take n m L h) at (all-codes-take 32 n (take m L) cs);
         normal = w;
-        rest = refl;
+        bounded = b;
+        rest = record { places = refl; after = refl };
       }
 
   module _ (l : List ℕ) (i r : ℕ) (e : n ≤ i) (j : i < m) (s : length l ≡ length L) (p : PushedAll L n i r l) where
     next : getD l i 0 ≡ getD L i 0
     next =
         let z : i + 0 ≡ i = omega arith in
-        rw z at (sym (getD-drop i l 0 0) ∙ ap (λ (x : List ℕ). getD x 0 0) (p .rest) ∙ getD-drop i L 0 0)
+        sym (getD-take 4096 l i 0 (omega arith))
+        ∙ rw z at (sym (getD-drop i (take 4096 l) 0 0) ∙ ap (λ (x : List ℕ). getD x 0 0) (p .rest .places) ∙ getD-drop i (take 4096 L) 0 0)
+        ∙ getD-take 4096 L i 0 (omega arith)
 
     pub turns-pushable : Pushable l r (getD l i 0)
     turns-pushable =
@@ -46,7 +45,8 @@ module _ (L : List ℕ) (n m : ℕ) (h : n ≤ m) (k : m ≤ length L) (top : m 
           few = omega arith;
           codes = p .codes;
           normal = p .normal;
-          code = rw next (code-in-front 32 L m i 0 j k cs);
+          bounded = p .bounded;
+          code = rw next (code-in-front 32 L m i 0 j (omega arith) cs);
         }
 
     more : gates (take (i + 1 - n) (drop n L)) ≡ gates (take (i - n) (drop n L)) ++ (gate (getD L i 0) ∷ [])
@@ -73,18 +73,32 @@ module _ (L : List ℕ) (n m : ℕ) (h : n ≤ m) (k : m ≤ length L) (top : m 
           within = let c = w .within in omega arith;
           codes = w .codes;
           normal = w .normal;
-          rest = drop-later l′ l (r + 1) (i + 1) (omega arith) (w .rest) ∙ drop-later l L i (i + 1) (omega arith) (p .rest);
+          bounded = w .bounded;
+          rest = apart-later (omega arith) (w .rest) (apart-more (omega arith) (p .rest));
         }
 
-pub turns-reduce : (L : List ℕ) (m r : ℕ) (M : List ℕ) → PushedAll L 0 m r M → ReducedTo L m r M
-unfolding nf
-turns-reduce L m r M p =
-    let z : m - 0 ≡ m = omega arith in
-    let e : gates (take r M) ≡ nf (gates (take m L)) = p .pushed ∙ ap (λ (j : ℕ). pushes [] (gates (take j L))) z in
-    record {
-      reduced = λ k f. rw e (nf-reduced k (gates (take m L)) f);
-      within = p .within;
-      codes = p .codes;
-      normal = p .normal;
-      rest = p .rest;
-    }
+-- ---- the bounds set to 0, the gates pushed onto none, and the bounds set to 0 again
+
+module _ (L : List ℕ) (m : ℕ) (few : m ≤ 4096) (h : 4162 ≤ length L) (b : List ℕ) (e : b ≡ replicate 66 0) where
+  pub cleared-codes : AllCodes 32 (take m L) → AllCodes 32 (take m (with-bounds L b))
+  cleared-codes cs = rw (lent-front L h b m few) cs
+
+  pub turns-reduce : (r : ℕ) (M : List ℕ) → 4162 ≤ length M → (b′ : List ℕ) → b′ ≡ replicate 66 0 → PushedAll (with-bounds L b) 0 m r M → ReducedTo L m r (with-bounds M b′)
+  unfolding nf
+  turns-reduce r M k b′ e′ p =
+      let z : m - 0 ≡ m = omega arith in
+      let f : take r (with-bounds M b′) ≡ take r M = lent-front M k b′ r (omega (arith, p .within)) in
+      let q : gates (take r M) ≡ nf (gates (take m L)) =
+      p .pushed ∙ ap (λ (j : ℕ). pushes [] (gates (take j (with-bounds L b)))) z ∙ ap (λ (x : List ℕ). pushes [] (gates x)) (lent-front L h b m few) in
+      let a : Apart m L M = apart-later (omega arith) (p .rest) (lent-apart L h b (ap length e) (record { places = refl; after = refl })) in
+      record {
+        reduced = λ n v. rw (f, q) (nf-reduced n (gates (take m L)) v);
+        within = p .within;
+        codes = rw f (p .codes);
+        normal = rw f (p .normal);
+        rest =
+            lent-rest M k b′ m few
+            ∙ ap (λ (x : List ℕ). x ++ (b′ ++ drop 4162 M)) (a .places)
+            ∙ ap (λ (x : List ℕ). drop m (take 4096 L) ++ (x ++ drop 4162 M)) e′
+            ∙ ap (λ (x : List ℕ). drop m (take 4096 L) ++ (replicate 66 0 ++ x)) (a .after);
+      }

@@ -1,3 +1,4 @@
+-- The definitions of this crate, in reading order.
 pub mod Partner
 pub mod Bounds
 pub mod Pushed

@@ -1,14 +1,15 @@
-// A reduced list of gates in the first part of a lent slice, a gate as its number, and one gate after another pushed onto it. Beside the list
-// stand 66 bounds: no gate from place last[t + 1] on has the target t, and none from place last[33 + s] on the control of slot s.
+// A reduced list of gates in the first part of a lent slice, a gate as its number, and one gate after another pushed onto it. The first 4,096
+// places of the slice are for gates, the next 66 for bounds, `last`: no gate from place last[t + 1] on has the target t, and none from place
+// last[33 + s] on the control of slot s.
 ghost use mathlib.Core.Path.{_≡_};
 ghost use mathlib.Core.List.{_∷_};
 ghost use Prim.Native.Nat.{_+_, _-_, _≤_, _<_};
-ghost use lib.ListN.{length, take, drop};
+ghost use lib.ListN.{length, take, drop, replicate};
 ghost use lib.Seq.{paste};
 ghost use Rattle.gates.specs.Code.{gates, Code, AllCodes};
 ghost use Rattle.gates.proofs.Normal.{Normal};
 ghost use Rattle.reduction.specs.Partner.{passing, Meets, Search, Enters};
-ghost use Rattle.reduction.specs.Bounds.{Bounds, Smaller, Past, Start, Each, Raised, Noted, Lowered};
+ghost use Rattle.reduction.specs.Bounds.{Bounded, Smaller, Past, Start, Moved, Each, Noted};
 ghost use Rattle.reduction.specs.Pushed.{Pushable, Pushed, PushedAll, ReducedTo};
 
 // Where the partner of a gate stands: at a place; or nowhere, and then how far to the left the gate comes.
@@ -79,13 +80,13 @@ fn start_of_search(last: &[u16], n: usize, g: u16) -> usize
 }
 
 // The partner of g in the first n gates: one of its control and target that passes alone bring beside it.
-pub fn find_partner(list: &[u16], last: &[u16], n: usize, g: u16) -> Partner
-    requires { ⌜ n ≤ length (now list) ⌝ }
+pub fn find_partner(list: &[u16], n: usize, g: u16) -> Partner
+    requires { ⌜ (n ≤ 4096) × (4162 ≤ length (now list)) ⌝ }
     requires { ⌜ Code 32 g ⌝ }
-    requires { ⌜ Bounds (take n (now list)) (now last) ⌝ }
+    requires { ⌜ Bounded (now list) n ⌝ }
     ensures { λ r. ⌜ Search (take n (now (list .entry))) g r ⌝ }
 {
-    let mut b = start_of_search(last, n, g);
+    let mut b = start_of_search(&list[4096..4162], n, g);
     while 0 < b {
         let p = b - 1;
         let a = list[p];
@@ -143,27 +144,28 @@ fn insert(list: &mut [u16], i: usize, n: usize, g: u16)
     list[i] = g;
 }
 
-// A bound, when a gate enters at place i of the first n: one more, if it is one of the places that move.
-fn raised(x: u16, i: u16, n: u16) -> u16
-    requires { ⌜ n < 65535 ⌝ }
-    ensures { λ r. ⌜ Raised i n x r ⌝ }
+// A bound, when the gates after place i of the first n move by up - down places.
+fn moved(x: u16, i: u16, n: u16, up: u16, down: u16) -> u16
+    requires { ⌜ (n + up < 65536) × (down ≤ 1) ⌝ }
+    ensures { λ r. ⌜ Moved i n up down x r ⌝ }
 {
     if i < x {
         if x <= n {
-            return x + 1;
+            return x + up - down;
         }
     }
     x
 }
 
-// Raises each bound, when a gate enters at place i of the first n.
-fn raise_all(last: &mut [u16], i: u16, n: u16)
-    requires { ⌜ (length (now last) ≡ 66) × (n < 65535) ⌝ }
-    ensures { λ _. ⌜ Each (Raised i n) (now (last .entry)) (now (last .exit)) ⌝ }
+// Moves each bound so.
+fn move_all(last: &mut [u16], i: u16, n: u16, up: u16, down: u16)
+    requires { ⌜ length (now last) ≡ 66 ⌝ }
+    requires { ⌜ (n + up < 65536) × (down ≤ 1) ⌝ }
+    ensures { λ _. ⌜ Each (Moved i n up down) (now (last .entry)) (now (last .exit)) ⌝ }
 {
     let mut k = 0;
     while k < 66 {
-        last[k] = raised(last[k], i, n);
+        last[k] = moved(last[k], i, n, up, down);
         k += 1;
     }
 }
@@ -177,48 +179,24 @@ fn note_entry(last: &mut [u16], i: u16, n: u16, g: u16)
     let target = (g / 132) as usize + 1;
     let control = 33 + (g / 4 % 33) as usize;
     let after = i + 1;
-    raise_all(last, i, n);
+    move_all(last, i, n, 1, 0);
     last[target] = larger(last[target], after);
     last[control] = larger(last[control], after);
 }
 
-// A bound, when the gate at place i leaves: one less, if it is one of the places that move.
-fn lowered(x: u16, i: u16) -> u16
-    ensures { λ r. ⌜ Lowered i x r ⌝ }
-{
-    if i < x {
-        return x - 1;
-    }
-    x
-}
-
-// Lowers each bound, when the gate at place i leaves.
-fn lower_all(last: &mut [u16], i: u16)
-    requires { ⌜ length (now last) ≡ 66 ⌝ }
-    ensures { λ _. ⌜ Each (Lowered i) (now (last .entry)) (now (last .exit)) ⌝ }
-{
-    let mut k = 0;
-    while k < 66 {
-        last[k] = lowered(last[k], i);
-        k += 1;
-    }
-}
-
 // Merges g into its partner at i: the powers add modulo 4, and a power of 0 is no gate.
-fn merge(list: &mut [u16], last: &mut [u16], n: usize, i: usize, g: u16) -> usize
+fn merge(list: &mut [u16], n: usize, i: usize, g: u16) -> usize
     requires { ⌜ Pushable (now list) n g ⌝ }
-    requires { ⌜ Bounds (take n (now list)) (now last) ⌝ }
     requires { ⌜ Meets (take n (now list)) g i ⌝ }
     requires { ⌜ i < n ⌝ }
     ensures { λ r. ⌜ Pushed (now (list .entry)) n g r (now (list .exit)) ⌝ }
-    ensures { λ r. ⌜ Bounds (take r (now (list .exit))) (now (last .exit)) ⌝ }
 {
     let a = list[i];
     let power = (a % 4 + g % 4) % 4;
     if power == 0 {
         let fewer = n - 1;
         remove(list, i, n);
-        lower_all(last, i as u16);
+        move_all(&mut list[4096..4162], i as u16, n as u16, 0, 1);
         return fewer;
     }
     list[i] = a / 4 * 4 + power;
@@ -226,58 +204,67 @@ fn merge(list: &mut [u16], last: &mut [u16], n: usize, i: usize, g: u16) -> usiz
 }
 
 // Puts g, which has no partner, in at its place.
-fn enter(list: &mut [u16], last: &mut [u16], n: usize, b: usize, g: u16) -> usize
+fn enter(list: &mut [u16], n: usize, b: usize, g: u16) -> usize
     requires { ⌜ Pushable (now list) n g ⌝ }
-    requires { ⌜ Bounds (take n (now list)) (now last) ⌝ }
     requires { ⌜ Search (take n (now list)) g (Partner.Nowhere b) ⌝ }
     ensures { λ r. ⌜ Pushed (now (list .entry)) n g r (now (list .exit)) ⌝ }
-    ensures { λ r. ⌜ Bounds (take r (now (list .exit))) (now (last .exit)) ⌝ }
 {
     let i = entry_place(list, b, n, g);
     insert(list, i, n, g);
-    note_entry(last, i as u16, n as u16, g);
+    note_entry(&mut list[4096..4162], i as u16, n as u16, g);
     n + 1
 }
 
 // Pushes g onto the first n gates, and gives their new number.
-pub fn push(list: &mut [u16], last: &mut [u16], n: usize, g: u16) -> usize
+pub fn push(list: &mut [u16], n: usize, g: u16) -> usize
     requires { ⌜ Pushable (now list) n g ⌝ }
-    requires { ⌜ Bounds (take n (now list)) (now last) ⌝ }
     ensures { λ r. ⌜ Pushed (now (list .entry)) n g r (now (list .exit)) ⌝ }
-    ensures { λ r. ⌜ Bounds (take r (now (list .exit))) (now (last .exit)) ⌝ }
 {
-    let found = find_partner(list, last, n, g);
+    let found = find_partner(list, n, g);
     match found {
-        Partner::At(i) => merge(list, last, n, i, g),
-        Partner::Nowhere(b) => enter(list, last, n, b, g),
+        Partner::At(i) => merge(list, n, i, g),
+        Partner::Nowhere(b) => enter(list, n, b, g),
     }
 }
 
 // Pushes the gates from n up to m, in turn, onto the first n.
-pub fn push_all(list: &mut [u16], last: &mut [u16], n: usize, m: usize) -> usize
-    requires { ⌜ (n ≤ m) × (m ≤ length (now list)) × (m ≤ 4096) ⌝ }
+pub fn push_all(list: &mut [u16], n: usize, m: usize) -> usize
+    requires { ⌜ (n ≤ m) × (m ≤ 4096) × (4162 ≤ length (now list)) ⌝ }
     requires { ⌜ AllCodes 32 (take m (now list)) ⌝ }
     requires { ⌜ Normal (gates (take n (now list))) ⌝ }
-    requires { ⌜ Bounds (take n (now list)) (now last) ⌝ }
+    requires { ⌜ Bounded (now list) n ⌝ }
     ensures { λ r. ⌜ PushedAll (now (list .entry)) n m r (now (list .exit)) ⌝ }
-    ensures { λ r. ⌜ Bounds (take r (now (list .exit))) (now (last .exit)) ⌝ }
 {
     let mut r = n;
     let mut i = n;
     while i < m {
         let g = list[i];
-        r = push(list, last, r, g);
+        r = push(list, r, g);
         i += 1;
     }
     r
 }
 
-// Reduces the first m gates, and gives their new number.
+// Sets the bounds to 0.
+pub fn clear_bounds(last: &mut [u16])
+    requires { ⌜ length (now last) ≡ 66 ⌝ }
+    ensures { λ _. ⌜ now (last .exit) ≡ replicate 66 0 ⌝ }
+{
+    let mut k = 0;
+    while k < 66 {
+        last[k] = 0;
+        k += 1;
+    }
+}
+
+// Reduces the first m gates, and gives their new number; the bounds are then 0.
 pub fn reduce(list: &mut [u16], m: usize) -> usize
-    requires { ⌜ (m ≤ length (now list)) × (m ≤ 4096) ⌝ }
+    requires { ⌜ (m ≤ 4096) × (4162 ≤ length (now list)) ⌝ }
     requires { ⌜ AllCodes 32 (take m (now list)) ⌝ }
     ensures { λ r. ⌜ ReducedTo (now (list .entry)) m r (now (list .exit)) ⌝ }
 {
-    let mut last = [0u16; 66];
-    push_all(list, &mut last, 0, m)
+    clear_bounds(&mut list[4096..4162]);
+    let r = push_all(list, 0, m);
+    clear_bounds(&mut list[4096..4162]);
+    r
 }

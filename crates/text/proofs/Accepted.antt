@@ -8,6 +8,8 @@ use native.Mathlib.Omega.{arith}
 use lib.ListN.{length}
 use lib.Dec.{eqb, leb, ltb}
 use borrow.Author.Tests.{ltb-true, ltb-false, leb-true, leb-false, eqb-false, not-false, le-leb, ne-eqb}
+use Rattle.gates.specs.Every.{Every}
+use Rattle.gates.proofs.Every.{every-follows}
 use Rattle.gates.specs.declared.Gate.{Gate}
 use Rattle.gates.specs.declared.Gate.the-variants.{Not, Powered}
 use Rattle.gates.specs.Circuit.{valid-not, valid-powered, AllValid}
@@ -22,7 +24,9 @@ use Rattle.text.specs.declared.Refusal.{Refusal}
 use Rattle.text.specs.declared.Head.{Head}
 use Rattle.text.specs.Text.{Form, lines, gate, mct, rendered, Proper, AllProper, cascade-text, circuit-text}
 use Rattle.text.specs.Reading.{Line, in-form, unformed, read, cut}
-use Rattle.text.specs.Judging.{Kind, cascade, circuit, Judged, turned-away, accepted, controls, target, gates, belongs, most, any-from, rising, Found, sound, breaks, Rule, rule, first, head-rules, rules, or-else, judge-lines, judge-text, read-all, judge}
+use Rattle.text.specs.declared.Kind.{Kind}
+use Rattle.text.specs.declared.Kind.the-variants.{Cascade, Circuit}
+use Rattle.text.specs.Judging.{Judged, turned-away, accepted, controls, target, gates, belongs, most, any-from, rising, Found, sound, breaks, Rule, rule, first, head-rules, rules, or-else, judge-lines, judge-text, read-all, judge}
 use Rattle.text.proofs.Printed.{read-only, reads, glued, glued-cut, cut-render}
 
 -- ---- answers
@@ -60,8 +64,7 @@ pub record Good (k : Kind) (n : ℕ) (f : Form) : Type 0 where
   pub spare : (leb 3 (length (controls f)) && eqb n (length (controls f) + 1)) ≡ false
 
 abbrev pub AllGood : Kind → ℕ → List Form → Type 0
-AllGood k n [] = Unit {0}
-AllGood k n (f ∷ fs) = Good k n f × AllGood k n fs
+AllGood k n = Every (Good k n)
 
 unfoldable pub made : ℕ → List Form → List Gate
 made n [] = []
@@ -211,7 +214,7 @@ rising-distinct (c ∷ d ∷ cs) e =
     let u = both (ltb c d) (rising (d ∷ cs)) e in
     rw (low-out c d cs (ltb-true c d (u .0)) (u .1), rising-distinct (d ∷ cs) (u .1))
 
-pub expandable : (n : ℕ) (cs : List ℕ) (t : ℕ) → Good cascade n (mct cs t) → Expandable n cs t × Below n cs
+pub expandable : (n : ℕ) (cs : List ℕ) (t : ℕ) → Good Cascade n (mct cs t) → Expandable n cs t × Below n cs
 unfolding controls target
 expandable n cs t g =
     let b = target-below n t cs (g .inside) in
@@ -220,13 +223,13 @@ expandable n cs t g =
 
 pub good-valid : (k : Kind) (n : ℕ) (f : Form) → Good k n f → AllValid n (gates n f)
 unfolding gates controls target belongs has Below
-good-valid cascade n (lines m) g = absurd (false≢true (g .belonging))
-good-valid circuit n (lines m) g = absurd (false≢true (g .belonging))
-good-valid cascade n (gate h) g = absurd (false≢true (g .belonging))
-good-valid circuit n (mct cs t) g = absurd (false≢true (g .belonging))
-good-valid cascade n (mct cs t) g = let e = expandable n cs t g in expansion-fits n cs t (e .0) (e .1)
-good-valid circuit n (gate (Not t)) g = (valid-not (target-below n t [] (g .inside) .0), tt)
-good-valid circuit n (gate (Powered p c t)) g =
+good-valid Cascade n (lines m) g = absurd (false≢true (g .belonging))
+good-valid Circuit n (lines m) g = absurd (false≢true (g .belonging))
+good-valid Cascade n (gate h) g = absurd (false≢true (g .belonging))
+good-valid Circuit n (mct cs t) g = absurd (false≢true (g .belonging))
+good-valid Cascade n (mct cs t) g = let e = expandable n cs t g in expansion-fits n cs t (e .0) (e .1)
+good-valid Circuit n (gate (Not t)) g = (valid-not (target-below n t [] (g .inside) .0), tt)
+good-valid Circuit n (gate (Powered p c t)) g =
     let b = target-below n t (c ∷ []) (g .inside) in
     let w = g .proper in
     let d : eqb t c ≡ false = neither (eqb t c) false (g .apart) .0 in
@@ -247,10 +250,9 @@ abbrev pub as-forms : List Controlled → List Form
 as-forms gs = map (λ g. mct (g .controls) (g .target)) gs
 
 pub all-proper : (k : Kind) (n : ℕ) (fs : List Form) → AllGood k n fs → AllProper fs
-all-proper k n [] g = tt
-all-proper k n (f ∷ fs) g = (g .0 .proper, all-proper k n fs (g .1))
+all-proper k n = every-follows (Good k n) Proper (λ f g. g .proper)
 
-pub record Cascade (n : ℕ) (s : List ℕ) (c : List Gate) : Type 0 where
+pub record CascadeOf (n : ℕ) (s : List ℕ) (c : List Gate) : Type 0 where
   pub mcts : List Controlled
   pub proper : AllProper (as-forms mcts)
   pub written : s ≡ cascade-text n mcts
@@ -263,7 +265,7 @@ record Mcts (n : ℕ) (fs : List Form) : Type 0 where
   make : made n fs ≡ expand-all n mcts
   ready : AllExpandable n mcts
 
-mcts-of : (n : ℕ) (fs : List Form) → AllGood cascade n fs → Mcts n fs
+mcts-of : (n : ℕ) (fs : List Form) → AllGood Cascade n fs → Mcts n fs
 unfolding made gates expand-all AllExpandable belongs _⨾_
 mcts-of n [] g = record { mcts = []; are = refl; make = refl; ready = tt }
 mcts-of n (lines m ∷ fs) g = absurd (false≢true (g .0 .belonging))
@@ -275,17 +277,17 @@ mcts-of n (mct cs t ∷ fs) g =
       mcts = record { controls = cs; target = t } ∷ w .mcts;
       are = ap (λ (l : List Form). mct cs t ∷ l) (w .are);
       make = ap (λ (l : List Gate). expansion n cs t ++ l) (w .make);
-      ready = (e .0, e .1, w .ready);
+      ready = (e, w .ready);
     }
 
-pub cascade-of : {n : ℕ} {s : List ℕ} {c : List Gate} → Text cascade n s c → Cascade n s c
+pub cascade-of : {n : ℕ} {s : List ℕ} {c : List Gate} → Text Cascade n s c → CascadeOf n s c
 unfolding cascade-text
 cascade-of {n} w = let m = mcts-of n (w .forms) (w .good) in
-    record { mcts = m .mcts; proper = subst AllProper (m .are) (all-proper cascade n (w .forms) (w .good)); written = w .written ∙ ap (λ (l : List Form). rendered (lines n ∷ l)) (m .are); expanded = w .whole ∙ m .make; ready = m .ready }
+    record { mcts = m .mcts; proper = subst AllProper (m .are) (all-proper Cascade n (w .forms) (w .good)); written = w .written ∙ ap (λ (l : List Form). rendered (lines n ∷ l)) (m .are); expanded = w .whole ∙ m .make; ready = m .ready }
 
 -- ---- a circuit
 
-circuit-is : (n : ℕ) (fs : List Form) → AllGood circuit n fs → fs ≡ map gate (made n fs)
+circuit-is : (n : ℕ) (fs : List Form) → AllGood Circuit n fs → fs ≡ map gate (made n fs)
 unfolding made gates belongs
 circuit-is n [] g = refl
 circuit-is n (lines m ∷ fs) g = absurd (false≢true (g .0 .belonging))
@@ -293,6 +295,6 @@ circuit-is n (gate h ∷ fs) g = ap (λ (l : List Form). gate h ∷ l) (circuit-
 circuit-is n (mct cs t ∷ fs) g = absurd (false≢true (g .0 .belonging))
 
 -- the circuit read is the one whose text it is
-pub circuit-of : {n : ℕ} {s : List ℕ} {c : List Gate} → Text circuit n s c → s ≡ circuit-text n c
+pub circuit-of : {n : ℕ} {s : List ℕ} {c : List Gate} → Text Circuit n s c → s ≡ circuit-text n c
 unfolding circuit-text
 circuit-of {n} w = w .written ∙ ap (λ (l : List Form). rendered (lines n ∷ l)) (circuit-is n (w .forms) (w .good) ∙ ap (map gate) (sym (w .whole)))

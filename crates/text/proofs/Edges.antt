@@ -12,7 +12,9 @@ use Rattle.text.specs.Text.{bytes}
 use Rattle.text.specs.Reading as R
 use Rattle.text.specs.Reading.{strip, second, num, tail, pair, list, many, lines-body, not-body, mct-body, powered-body, parse, whole, read, longer, cut}
 use Rattle.text.specs.Judging as J
-use Rattle.text.specs.Judging.{Kind, cascade, circuit, Judged, turned-away, accepted, belongs, most, any-from, rising, first, head-rules, rules, or-else, judge-lines, judge-text, read-all, judge}
+use Rattle.text.specs.declared.Kind.{Kind}
+use Rattle.text.specs.declared.Kind.the-variants.{Cascade, Circuit}
+use Rattle.text.specs.Judging.{Judged, turned-away, accepted, belongs, most, any-from, rising, first, head-rules, rules, or-else, judge-lines, judge-text, read-all, judge}
 use Rattle.text.specs.Refusals.{number-of}
 
 -- a text, and: the refusal's number and line; or the lines and the gates of an accepted text
@@ -44,32 +46,32 @@ all-hold (e ∷ es) = holds e && all-hold es
 
 abbrev edges : List Edge
 edges =
-    passes cascade (bytes "(lines 17)\n" ++ times 11 m15) 17 4092
-    ∷ away cascade (bytes "(lines 17)\n" ++ times 12 m15) 9 13
-    ∷ away cascade (bytes "(lines 17)\n(mct (0 1 2 3 4 5 6 7 8 9 10 11 12 13 14 15) 16)\n") 7 2
-    ∷ passes cascade (bytes "(lines 32)\n") 32 0
-    ∷ away cascade (bytes "(lines 33)\n") 4 1
-    ∷ away cascade (bytes "(lines 0)\n") 4 1
-    ∷ away cascade (bytes "(lines 100)\n") 3 1
-    ∷ away circuit (bytes "(lines 3)\n(not 1)") 3 2
-    ∷ away circuit (bytes "(lines 3)") 3 1
-    ∷ away circuit [] 3 1
-    ∷ away circuit (bytes "\n") 3 1
-    ∷ away circuit (bytes "(lines 3)\n(not 1)\n\n") 3 3
-    ∷ away circuit (bytes "(lines 3)\n(lines 3)\n") 3 2
-    ∷ away circuit (bytes "(lines 3)\n(mct () 1)\n") 3 2
-    ∷ away cascade (bytes "(lines 3)\n(not 1)\n") 3 2
-    ∷ away circuit (bytes "(not 1)\n") 3 1
-    ∷ away circuit (bytes "(lines 3)\n(v 1 03)\n") 3 2
-    ∷ away circuit (bytes "(lines 3)\n(V 1 2)\n") 3 2
-    ∷ away circuit (bytes "(lines 3)\n(v  1 2)\n") 3 2
-    ∷ passes cascade (bytes "(lines 1)\n" ++ times 256 (bytes "(mct () 0)\n")) 1 256
-    ∷ away cascade (bytes "(lines 1)\n" ++ times 257 (bytes "(mct () 0)\n")) 9 258
+    passes Cascade (bytes "(lines 17)\n" ++ times 11 m15) 17 4092
+    ∷ away Cascade (bytes "(lines 17)\n" ++ times 12 m15) 9 13
+    ∷ away Cascade (bytes "(lines 17)\n(mct (0 1 2 3 4 5 6 7 8 9 10 11 12 13 14 15) 16)\n") 7 2
+    ∷ passes Cascade (bytes "(lines 32)\n") 32 0
+    ∷ away Cascade (bytes "(lines 33)\n") 4 1
+    ∷ away Cascade (bytes "(lines 0)\n") 4 1
+    ∷ away Cascade (bytes "(lines 100)\n") 3 1
+    ∷ away Circuit (bytes "(lines 3)\n(not 1)") 3 2
+    ∷ away Circuit (bytes "(lines 3)") 3 1
+    ∷ away Circuit [] 3 1
+    ∷ away Circuit (bytes "\n") 3 1
+    ∷ away Circuit (bytes "(lines 3)\n(not 1)\n\n") 3 3
+    ∷ away Circuit (bytes "(lines 3)\n(lines 3)\n") 3 2
+    ∷ away Circuit (bytes "(lines 3)\n(mct () 1)\n") 3 2
+    ∷ away Cascade (bytes "(lines 3)\n(not 1)\n") 3 2
+    ∷ away Circuit (bytes "(not 1)\n") 3 1
+    ∷ away Circuit (bytes "(lines 3)\n(v 1 03)\n") 3 2
+    ∷ away Circuit (bytes "(lines 3)\n(V 1 2)\n") 3 2
+    ∷ away Circuit (bytes "(lines 3)\n(v  1 2)\n") 3 2
+    ∷ passes Cascade (bytes "(lines 1)\n" ++ times 256 (bytes "(mct () 0)\n")) 1 256
+    ∷ away Cascade (bytes "(lines 1)\n" ++ times 257 (bytes "(mct () 0)\n")) 9 258
     -- 4 before 5, 5 before 6, 6 before 7, 8 before 9
-    ∷ away cascade (bytes "(lines 3)\n(mct (3) 3)\n") 4 2
-    ∷ away cascade (bytes "(lines 3)\n(mct (2 1) 2)\n") 5 2
-    ∷ away cascade (bytes "(lines 32)\n(mct (0 2 1 3 4 5 6 7 8 9 10 11 12 13 14 15) 16)\n") 6 2
-    ∷ away cascade (bytes "(lines 4)\n" ++ (times 256 (bytes "(mct () 0)\n") ++ bytes "(mct (0 1 2) 3)\n")) 8 258
+    ∷ away Cascade (bytes "(lines 3)\n(mct (3) 3)\n") 4 2
+    ∷ away Cascade (bytes "(lines 3)\n(mct (2 1) 2)\n") 5 2
+    ∷ away Cascade (bytes "(lines 32)\n(mct (0 2 1 3 4 5 6 7 8 9 10 11 12 13 14 15) 16)\n") 6 2
+    ∷ away Cascade (bytes "(lines 4)\n" ++ (times 256 (bytes "(mct () 0)\n") ++ bytes "(mct (0 1 2) 3)\n")) 8 258
     ∷ []
 
 edges-hold : all-hold edges ≡ true

@@ -6,6 +6,8 @@ use Prim.Native.Nat.{ℕ, _+_, _≤_}
 use native.Mathlib.Omega.{arith}
 use lib.ListN.{length, length-append, length-map}
 use borrow.Author.Tests.{le-ltb, le-leb, lt-leb, ne-eqb}
+use Rattle.gates.specs.Every.{Every}
+use Rattle.gates.proofs.Every.{every-map}
 use Rattle.gates.specs.declared.Gate.{Gate}
 use Rattle.gates.specs.declared.Gate.the-variants.{Not, Powered}
 use Rattle.gates.specs.Circuit.{Valid, valid-not, valid-powered, AllValid}
@@ -14,15 +16,16 @@ use Rattle.cascades.specs.Expansion.{_⨾_, expansion}
 use Rattle.cascades.specs.Cascade.{Controlled, expand-all}
 use Rattle.text.specs.declared.Head.{Head}
 use Rattle.text.specs.Text.{Form, lines, gate, mct, rendered, Proper, AllProper, circuit-text, cascade-text}
-use Rattle.text.specs.Judging.{Kind, cascade, circuit, accepted, controls, target, gates, belongs, most, any-from, rising, sound, first, head-rules, rules, or-else, judge-lines, judge-text, judge}
+use Rattle.text.specs.declared.Kind.{Kind}
+use Rattle.text.specs.declared.Kind.the-variants.{Cascade, Circuit}
+use Rattle.text.specs.Judging.{accepted, controls, target, gates, belongs, most, any-from, rising, sound, first, head-rules, rules, or-else, judge-lines, judge-text, judge}
 use Rattle.text.proofs.Accepted.{Good, AllGood, made, formed, read-rendered, all-proper, as-forms}
 
 -- ---- either text
 
 -- no form has more than 15 controls
 abbrev pub AllNarrow : List Form → Type 0
-AllNarrow [] = Unit {0}
-AllNarrow (f ∷ fs) = (length (controls f) ≤ 15) × AllNarrow fs
+AllNarrow = Every (λ f. length (controls f) ≤ 15)
 
 good-kept : (k : Kind) (h : Head) (before : ℕ) (c : List Gate) (f : Form) → Good k (h .lines) f → length (controls f) ≤ 15 → before + 1 ≤ most k → length (c ++ gates (h .lines) f) ≤ 4096 → first (rules k h before c f) ≡ sound
 unfolding first rules
@@ -54,18 +57,16 @@ gate-proper n h (valid-not k) = omega arith
 gate-proper n h (valid-powered a b c d e) = (omega arith, omega arith, a, b)
 
 pub gates-proper : (n : ℕ) (r : List Gate) → n ≤ 32 → AllValid n r → AllProper (map gate r)
-gates-proper n [] h f = tt
-gates-proper n (g ∷ r) h f = (gate-proper n h (f .0), gates-proper n r h (f .1))
+gates-proper n r h = every-map (Valid n) Proper gate (λ g. gate-proper n h) r
 
-gate-good : (n : ℕ) {g : Gate} → n ≤ 32 → Valid n g → Good circuit n (gate g)
+gate-good : (n : ℕ) {g : Gate} → n ≤ 32 → Valid n g → Good Circuit n (gate g)
 unfolding belongs controls target any-from has rising
 gate-good n h (valid-not {t} k) = record { proper = gate-proper n h (valid-not k); belonging = refl; inside = rw (lt-leb n t k); apart = refl; ordered = refl; spare = refl }
 gate-good n h (valid-powered {p} {c} {t} x y z k e) =
     record { proper = gate-proper n h (valid-powered {p = p} x y z k e); belonging = refl; inside = rw (lt-leb n t k, lt-leb n c z); apart = rw (ne-eqb t c (λ q. e (sym q))); ordered = refl; spare = refl }
 
-gates-good : (n : ℕ) (r : List Gate) → n ≤ 32 → AllValid n r → AllGood circuit n (map gate r)
-gates-good n [] h f = tt
-gates-good n (g ∷ r) h f = (gate-good n h (f .0), gates-good n r h (f .1))
+gates-good : (n : ℕ) (r : List Gate) → n ≤ 32 → AllValid n r → AllGood Circuit n (map gate r)
+gates-good n r h = every-map (Valid n) (Good Circuit n) gate (λ g. gate-good n h) r
 
 gates-narrow : (r : List Gate) → AllNarrow (map gate r)
 unfolding controls
@@ -78,11 +79,11 @@ unfolding made gates
 gates-made n [] = refl
 gates-made n (g ∷ r) = ap (λ (l : List Gate). g ∷ l) (gates-made n r)
 
-pub judge-written : (n : ℕ) (r : List Gate) → AllValid n r → 1 ≤ n → n ≤ 32 → length r ≤ 4096 → judge circuit (circuit-text n r) ≡ accepted (record { lines = n }) r
+pub judge-written : (n : ℕ) (r : List Gate) → AllValid n r → 1 ≤ n → n ≤ 32 → length r ≤ 4096 → judge Circuit (circuit-text n r) ≡ accepted (record { lines = n }) r
 unfolding circuit-text most
 judge-written n r f a b l =
     let e = gates-made n r in
-    text-judged circuit n (map gate r) (gates-good n r b f) (gates-narrow r) a b (omega (arith, l, length-map r gate)) (omega (arith, l, ap length e)) ∙ ap (accepted (record { lines = n })) e
+    text-judged Circuit n (map gate r) (gates-good n r b f) (gates-narrow r) a b (omega (arith, l, length-map r gate)) (omega (arith, l, ap length e)) ∙ ap (accepted (record { lines = n })) e
 
 -- ---- a cascade text
 
@@ -91,9 +92,9 @@ unfolding made gates expand-all _⨾_
 mcts-made n [] = refl
 mcts-made n (g ∷ gs) = ap (λ (l : List Gate). expansion n (g .controls) (g .target) ++ l) (mcts-made n gs)
 
-pub judge-cascade-written : (n : ℕ) (gs : List Controlled) → AllGood cascade n (as-forms gs) → AllNarrow (as-forms gs) → 1 ≤ n → n ≤ 32 → length gs ≤ 256 → length (expand-all n gs) ≤ 4096
-    → judge cascade (cascade-text n gs) ≡ accepted (record { lines = n }) (expand-all n gs)
+pub judge-cascade-written : (n : ℕ) (gs : List Controlled) → AllGood Cascade n (as-forms gs) → AllNarrow (as-forms gs) → 1 ≤ n → n ≤ 32 → length gs ≤ 256 → length (expand-all n gs) ≤ 4096
+    → judge Cascade (cascade-text n gs) ≡ accepted (record { lines = n }) (expand-all n gs)
 unfolding cascade-text most
 judge-cascade-written n gs g w a b m l =
     let e = mcts-made n gs in
-    text-judged cascade n (as-forms gs) g w a b (omega (arith, m, length-map gs (λ (x : Controlled). mct (x .controls) (x .target)))) (omega (arith, l, ap length e)) ∙ ap (accepted (record { lines = n })) e
+    text-judged Cascade n (as-forms gs) g w a b (omega (arith, m, length-map gs (λ (x : Controlled). mct (x .controls) (x .target)))) (omega (arith, l, ap length e)) ∙ ap (accepted (record { lines = n })) e

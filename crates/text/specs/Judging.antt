@@ -9,15 +9,13 @@ use Rattle.gates.specs.declared.Gate.{Gate}
 use Rattle.gates.specs.declared.Gate.the-variants.{Not, Powered}
 use Rattle.meaning.specs.Pattern.{has}
 use Rattle.cascades.specs.Expansion.{expansion}
+use Rattle.text.specs.declared.Kind.{Kind}
+use Rattle.text.specs.declared.Kind.the-variants.{Cascade, Circuit}
 use Rattle.text.specs.declared.Refusal.{Refusal}
 use Rattle.text.specs.declared.Head.{Head}
 use Rattle.text.specs.declared.Refusal.the-variants.{Malformed, NoSuchLine, Crossed, Unsorted, TooWide, NoSpare, TooMany}
 use Rattle.text.specs.Text.{Form, lines, gate, mct}
 use Rattle.text.specs.Reading.{Line, in-form, unformed, read, cut}
-
--- the two texts
-pub data Kind : Type 0 where
-  cascade circuit : Kind
 
 -- a text is turned away with a refusal and a line; or accepted, with its head and its circuit, read or expanded
 pub data Judged : Type 0 where
@@ -45,17 +43,17 @@ gates n (mct cs t) = expansion n cs t
 
 -- the form that every line after line 1 has in a text of this kind
 unfoldable pub belongs : Kind → Form → Bool
-belongs cascade (lines n) = false
-belongs cascade (gate g) = false
-belongs cascade (mct cs t) = true
-belongs circuit (lines n) = false
-belongs circuit (gate g) = true
-belongs circuit (mct cs t) = false
+belongs Cascade (lines n) = false
+belongs Cascade (gate g) = false
+belongs Cascade (mct cs t) = true
+belongs Circuit (lines n) = false
+belongs Circuit (gate g) = true
+belongs Circuit (mct cs t) = false
 
 -- at most 256 mct lines, at most 4,096 circuit lines
 unfoldable pub most : Kind → ℕ
-most cascade = 256
-most circuit = 4096
+most Cascade = 256
+most Circuit = 4096
 
 unfoldable pub any-from : ℕ → List ℕ → Bool
 any-from n [] = false

@@ -1,3 +1,4 @@
+-- The definitions of this crate, in reading order.
 pub mod Refusals
 pub mod Text
 pub mod Reading

@@ -7,6 +7,7 @@ use Prim.Native.String.{String}
 use mathlib.Core.Bool.{cond}
 use mathlib.Core.List.{List, [], _∷_, _++_, map}
 use lib.Dec.{ltb}
+use Rattle.gates.specs.Every.{Every}
 use Rattle.gates.specs.declared.Gate.{Gate}
 use Rattle.gates.specs.declared.Gate.the-variants.{Not, Powered}
 use Rattle.cascades.specs.Cascade.{Controlled}
@@ -66,8 +67,7 @@ circuit-text n c = rendered (lines n ∷ map gate c)
 
 -- a form that can be written: numbers of one or two digits, powers 1 to 3
 abbrev pub Short : List ℕ → Type 0
-Short [] = Unit {0}
-Short (c ∷ cs) = (c < 100) × Short cs
+Short = Every (λ c. c < 100)
 
 abbrev pub Proper : Form → Type 0
 Proper (lines n) = n < 100
@@ -76,5 +76,4 @@ Proper (gate (Powered p c t)) = (c < 100) × (t < 100) × (1 ≤ p) × (p ≤ 3)
 Proper (mct cs t) = Short cs × (t < 100)
 
 abbrev pub AllProper : List Form → Type 0
-AllProper [] = Unit {0}
-AllProper (f ∷ fs) = Proper f × AllProper fs
+AllProper = Every Proper

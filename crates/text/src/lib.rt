@@ -1,4 +1,4 @@
-// The two texts: the refusals by name, the head of a text, and the words that reader and writer share.
+// The two texts: their kinds, the refusals by name, the head of a text, and the words that reader and writer share.
 ghost use mathlib.Core.Path.{_≡_};
 ghost use Rattle.text.specs.Refusals.{number-of};
 
@@ -14,6 +14,12 @@ pub enum Refusal {
     NoSpare,
     TooMany,
     ShortAnswer,
+}
+
+// The two texts: a cascade of mct gates, and a circuit.
+pub enum Kind {
+    Cascade,
+    Circuit,
 }
 
 // What line 1 of a text says.

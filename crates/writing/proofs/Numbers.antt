@@ -34,6 +34,14 @@ more-digits n h = rw (le-ltb n 10 h) (ap (λ (x : List ℕ). x ++ (48 + n % 10) 
 pub decimal-length : (n : ℕ) → 10 ≤ n → length (decimal n) ≡ length (decimal (n / 10)) + 1
 decimal-length n h = ap length (more-digits n h) ∙ length-append (decimal (n / 10)) ((48 + n % 10) ∷ [])
 
+-- a tenth of a number has at most as many digits
+pub tenth-length : (n : ℕ) → length (decimal (n / 10)) ≤ length (decimal n)
+tenth-length n = go (ltb n 10) refl
+  where
+    go : (b : Bool) → ltb n 10 ≡ b → length (decimal (n / 10)) ≤ length (decimal n)
+    go true e = let l = ltb-true n 10 e in rw (one-digit n l, one-digit (n / 10) (omega arith)) (omega arith)
+    go false e = let l = ltb-false n 10 e in omega (arith, decimal-length n l)
+
 -- a number of one or two digits
 pub digits-decimal : (n : ℕ) → n < 100 → digits n ≡ decimal n
 unfolding digits

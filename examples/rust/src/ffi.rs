@@ -1,37 +1,10 @@
-//! The C functions of include/yilgorza.h, and safe calls of them: each is proved
-//! for all bytes and all lengths, so a caller has nothing to see to.
+//! Safe calls of the C functions: each is proved for all bytes and all lengths, so
+//! a caller has nothing to see to.
+
+use crate::declared::{yilgorza_gate, yilgorza_quote};
 
 pub type Writing =
     unsafe extern "C" fn(*const u8, usize, *mut u16, usize, *mut u8, usize, *mut u64);
-
-extern "C" {
-    pub fn yilgorza_map(
-        text: *const u8,
-        text_len: usize,
-        list: *mut u16,
-        list_len: usize,
-        answer: *mut u8,
-        answer_len: usize,
-        outcome: *mut u64,
-    );
-    pub fn yilgorza_reduce(
-        text: *const u8,
-        text_len: usize,
-        list: *mut u16,
-        list_len: usize,
-        answer: *mut u8,
-        answer_len: usize,
-        outcome: *mut u64,
-    );
-    fn yilgorza_quote(
-        text: *const u8,
-        text_len: usize,
-        list: *mut u16,
-        list_len: usize,
-        outcome: *mut u64,
-    );
-    fn yilgorza_gate(record: u16, gate: *mut u8);
-}
 
 /// Number, line and count of map or reduce.
 pub fn writing(job: Writing, text: &[u8], list: &mut [u16], answer: &mut [u8]) -> [u64; 3] {

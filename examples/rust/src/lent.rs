@@ -1,17 +1,18 @@
 //! The jobs on memory that the caller lends: a list of at least 4,096 records, and
 //! an answer area. A record is a gate as a number; [`gate`] reads it.
 
+use crate::declared::{yilgorza_map, yilgorza_reduce};
 use crate::ffi;
 use crate::{Gate, Number, Refusal};
 
 /// Maps a cascade text; the bytes written.
 pub fn map(text: &[u8], list: &mut [u16], answer: &mut [u8]) -> Result<usize, Refusal> {
-    result(ffi::writing(ffi::yilgorza_map, text, list, answer))
+    result(ffi::writing(yilgorza_map, text, list, answer))
 }
 
 /// Reduces a circuit text; the bytes written.
 pub fn reduce(text: &[u8], list: &mut [u16], answer: &mut [u8]) -> Result<usize, Refusal> {
-    result(ffi::writing(ffi::yilgorza_reduce, text, list, answer))
+    result(ffi::writing(yilgorza_reduce, text, list, answer))
 }
 
 /// Quotes a cascade text; the gates counted, which are the first records.

@@ -10,6 +10,7 @@
 //! [`map`], [`reduce`] and [`quote`] bring the memory that the C functions of
 //! `include/yilgorza.h` are lent; [`lent`] has them on memory of the caller's.
 
+mod declared;
 mod ffi;
 pub mod lent;
 

@@ -1,36 +1,10 @@
-//! The C functions under test, as ../../../include/yilgorza.h declares them for
-//! the other harnesses, and calls of them on guarded areas.
+//! Calls of the C functions under test on guarded areas.
 
+#[path = "../../../examples/rust/src/declared.rs"]
+mod declared;
+
+use declared::{yilgorza_gate, yilgorza_map, yilgorza_quote, yilgorza_reduce};
 use peer::{Job, Outcome};
-
-extern "C" {
-    fn yilgorza_map(
-        text: *const u8,
-        text_len: usize,
-        list: *mut u16,
-        list_len: usize,
-        answer: *mut u8,
-        answer_len: usize,
-        outcome: *mut u64,
-    );
-    fn yilgorza_reduce(
-        text: *const u8,
-        text_len: usize,
-        list: *mut u16,
-        list_len: usize,
-        answer: *mut u8,
-        answer_len: usize,
-        outcome: *mut u64,
-    );
-    fn yilgorza_quote(
-        text: *const u8,
-        text_len: usize,
-        list: *mut u16,
-        list_len: usize,
-        outcome: *mut u64,
-    );
-    fn yilgorza_gate(record: u16, gate: *mut u8);
-}
 
 /// How many records or bytes before and after each area are watched.
 const GUARD: usize = 32;

@@ -1,8 +1,4 @@
 -- `capi::yilgorza_quote` meets its contract, by what is handed over. Assumes nothing.
-use mathlib.Core.Path.{_≡_}
-use mathlib.Core.List.{[]}
-use lib.ListN.{length}
-use Rattle.jobs.specs.Jobs.{quoting}
 use Rattle.capi.proofs.Told.{told}
 use borrow.Author.Needs.{needs}
 use Rattle.capi.proofs.yilgorza_quote.Statement.{statement}
@@ -19,11 +15,8 @@ same-length c = search needs
 
 returns : tie.Need-returns
 returns c =
-    let a = c .before .before .before .before .before .before .before .before .args in
     let handed = c .before .before .before .before .before .quote-codes in
-    let over = c .before .before .hand-over .ensures in
-    let all : length (handed .result .codes) ≡ 4096 = search needs in
-    rw (over .0, over .1) (told quoting (a .text .now) (a .list .now) [] (handed .result) [] all (handed .ensures))
+    told (search needs) (handed .ensures) (c .before .before .hand-over .ensures)
 
 pub yilgorza-quote-spec : {M : Type 1} → statement M
 yilgorza-quote-spec =

@@ -1,18 +1,16 @@
 -- `jobs::answer_loaded` meets its contract. Assumes nothing.
 use borrow.Author.Needs.{needs}
 use mathlib.Core.Path.{refl}
+use native.Mathlib.Omega.{arith}
+use Rattle.jobs.proofs.Handed.{fewer}
 use Rattle.jobs.proofs.answer_loaded.Statement.{statement}
 use Rattle.jobs.proofs.answer_loaded.Tie as tie
-use Rattle.jobs.proofs.answer_loaded.Reads as reads
-use Rattle.jobs.proofs.answer_loaded.Lts as lts
-use Rattle.jobs.proofs.answer_text.Reads as answer-text-reads
-use Rattle.jobs.proofs.refuse.Reads as refuse-reads
 
 enum-known-loaded : tie.Need-enum-known-loaded
 enum-known-loaded c = search needs
 
 answer-text-requires : tie.Need-answer-text-requires
-answer-text-requires c κs = rw (c .before .before .loaded .given .1) at (c .before .before .before .before .before .pre)
+answer-text-requires c κs = fewer (omega arith) (rw (c .before .before .loaded .given .1) at (c .before .before .before .before .before .pre))
 
 enum-known-loaded-2 : tie.Need-enum-known-loaded-2
 enum-known-loaded-2 c = search needs

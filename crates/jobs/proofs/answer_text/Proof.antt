@@ -6,12 +6,6 @@ use denote.Ref.{now}
 use Rattle.jobs.proofs.Handed.{too-short, long-enough}
 use Rattle.jobs.proofs.answer_text.Statement.{statement}
 use Rattle.jobs.proofs.answer_text.Tie as tie
-use Rattle.jobs.proofs.answer_text.Reads as reads
-use Rattle.jobs.proofs.answer_text.Lts as lts
-use Rattle.jobs.proofs.refuse.Reads as refuse-reads
-use Rattle.jobs.proofs.succeed.Reads as succeed-reads
-use Rattle.writing.proofs.measure.Reads as measure-reads
-use Rattle.writing.proofs.write_circuit.Reads as write-circuit-reads
 
 slice-aggregate-measure : tie.Need-slice-aggregate-measure
 slice-aggregate-measure c = search needs
@@ -25,7 +19,7 @@ refuse-requires c κs = search needs
 returns : tie.Need-returns
 returns c =
     let b = c .before .before .before .before .before .args in
-    let w = too-short (b .head) (b .m) (b .room) (c .before .before .measure .result) (b .t4) (now (b .answer)) (c .before .before .measure .ensures) (c .before .if1 .taken) in
+    let w = too-short (b .head) (b .m) (b .room) (c .before .before .measure .result) (b .t4) (now (b .answer)) (c .before .before .measure .ensures) (omega arith) in
     (c .refuse .ensures ∙ w .0, w .1)
 
 slice-aggregate-write-circuit : tie.Need-slice-aggregate-write-circuit
@@ -45,7 +39,7 @@ returns-2 c =
     let b = c .before .before .before .before .before .before .before .before .before .before .args in
     let x = c .before .before .before .write-circuit in
     let y = c .before .before .before .before .before .before .before .measure in
-    let w = long-enough (b .head) (b .m) (b .room) (y .result) (x .result) (b .t4) (now (b .answer)) (x .last .1 .1 .1 .0) (y .ensures) (omega (arith, c .before .before .before .before .before .before .if1 .left)) (x .ensures .0) (x .ensures .1) in
+    let w = long-enough (b .head) (b .m) (b .room) (y .result) (x .result) (b .t4) (now (b .answer)) (x .last .1 .1 .1 .0) (y .ensures) (omega arith) (x .ensures .0) (x .ensures .1) in
     (c .succeed .ensures ∙ w .0, w .1)
 
 pub answer-text-spec : {M : Type 1} → statement M

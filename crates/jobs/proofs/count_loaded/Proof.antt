@@ -2,10 +2,6 @@
 use borrow.Author.Needs.{needs}
 use Rattle.jobs.proofs.count_loaded.Statement.{statement}
 use Rattle.jobs.proofs.count_loaded.Tie as tie
-use Rattle.jobs.proofs.count_loaded.Reads as reads
-use Rattle.jobs.proofs.count_loaded.Lts as lts
-use Rattle.jobs.proofs.refuse.Reads as refuse-reads
-use Rattle.jobs.proofs.succeed.Reads as succeed-reads
 
 enum-known-loaded : tie.Need-enum-known-loaded
 enum-known-loaded c = search needs

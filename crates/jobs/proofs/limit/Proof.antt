@@ -3,14 +3,12 @@ use native.Mathlib.Omega.{arith}
 use borrow.Author.Tests.{le-leb, lt-leb}
 use Rattle.jobs.proofs.limit.Statement.{statement}
 use Rattle.jobs.proofs.limit.Tie as tie
-use Rattle.jobs.proofs.limit.Reads as reads
-use Rattle.jobs.proofs.limit.Lts as lts
 
 returns : tie.Need-returns
-returns c = rw (le-leb (c .before .args .number) 2 (c .if1 .taken))
+returns c = rw (le-leb (c .before .args .number) 2 (omega arith))
 
 returns-2 : tie.Need-returns-2
-returns-2 c = rw (lt-leb (c .before .args .number) 2 (omega (arith, c .if1 .left)))
+returns-2 c = rw (lt-leb (c .before .args .number) 2 (omega arith))
 
 pub limit-spec : {M : Type 1} → statement M
 limit-spec = tie.close (tie.spec returns returns-2)

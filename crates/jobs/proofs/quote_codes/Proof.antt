@@ -5,16 +5,12 @@ use Rattle.jobs.specs.Jobs.{takes}
 use Rattle.jobs.proofs.Handed.{count-hands}
 use Rattle.jobs.proofs.quote_codes.Statement.{statement}
 use Rattle.jobs.proofs.quote_codes.Tie as tie
-use Rattle.jobs.proofs.quote_codes.Reads as reads
-use Rattle.jobs.proofs.quote_codes.Lts as lts
-use Rattle.jobs.proofs.count_loaded.Reads as count-loaded-reads
-use Rattle.jobs.proofs.take_cascade.Reads as take-cascade-reads
 
-slice-aggregate-take-cascade : tie.Need-slice-aggregate-take-cascade
-slice-aggregate-take-cascade c = search needs
+slice-aggregate-load-text : tie.Need-slice-aggregate-load-text
+slice-aggregate-load-text c = search needs
 
-take-cascade-requires : tie.Need-take-cascade-requires
-take-cascade-requires c κs = search needs
+load-text-requires : tie.Need-load-text-requires
+load-text-requires c κs = search needs
 
 count-loaded-requires : tie.Need-count-loaded-requires
 count-loaded-requires c κs = search needs
@@ -23,10 +19,10 @@ returns : tie.Need-returns
 unfolding takes
 returns c =
     let b = c .before .before .before .before .before .args in
-    let x = c .before .before .take-cascade in
-    rw (c .count-loaded .ensures) (count-hands (now (b .text)) (x .last .1 .1 .0) (b .room) (x .result) (x .kept .1 .1 .0) (x .ensures))
+    let x = c .before .before .load-text in
+    rw (c .count-loaded .ensures) (count-hands (now (b .text)) (x .last .1 .1 .1 .0) (b .room) (x .result) (x .kept .1 .1 .1 .0) (x .ensures))
 
 pub quote-codes-spec : {M : Type 1} → statement M
 quote-codes-spec =
     tie.close
-    (tie.spec slice-aggregate-take-cascade take-cascade-requires count-loaded-requires returns)
+    (tie.spec slice-aggregate-load-text load-text-requires count-loaded-requires returns)

@@ -1,8 +1,8 @@
 -- `jobs::reduce` meets its contract, by the walk in `Shape_tla` of the crate records. Assumes nothing.
-use mathlib.Core.Path.{refl}
 use Rattle.jobs.specs.Jobs.{reducing}
 use Rattle.jobs.specs.Handing.{Said, Hands}
 use Rattle.records.proofs.Shape_tla.{proved}
+use Rattle.jobs.proofs.Handed.{leads}
 use Rattle.jobs.proofs.reduce_codes.Symbol as codes-def
 use Rattle.jobs.proofs.reduce_codes.Met as codes-thm
 use Rattle.jobs.proofs.reduce.Key.{name as #job}
@@ -11,5 +11,5 @@ use Rattle.jobs.proofs.reduce.Code as code
 
 pub reduce-spec : {M : Type 1} → stated.statement M
 unfolding code.routine
-reduce-spec 𝓤 H 𝓜 𝓖 𝓡 = proved (Hands reducing) (Said reducing) (record { fits = λ t n a d a′ h. h .fits; tells = λ t l a d a′ h. h .tells l refl })
+reduce-spec 𝓤 H 𝓜 𝓖 𝓡 = proved (Hands reducing) (Said reducing) (leads reducing)
     𝓤 H 𝓜 𝓖 𝓡 code.env #job codes-def.name codes-def.routine code.calls-jobs·reduce-codes code.calls-records·finish (code.unfolded 𝓤 H 𝓜 𝓡) (codes-thm.met 𝓤 H 𝓜 𝓖 𝓡)

@@ -3,10 +3,6 @@ use borrow.Author.Needs.{needs}
 use Rattle.jobs.specs.Handing.{refused}
 use Rattle.jobs.proofs.refuse.Statement.{statement}
 use Rattle.jobs.proofs.refuse.Tie as tie
-use Rattle.jobs.proofs.refuse.Reads as reads
-use Rattle.jobs.proofs.refuse.Lts as lts
-use Rattle.jobs.proofs.limit.Reads as limit-reads
-use Rattle.text.proofs.number.Reads as number-reads
 
 number-requires : tie.Need-number-requires
 number-requires c κs = search needs

@@ -3,8 +3,6 @@ use mathlib.Core.Path.{refl}
 use Rattle.jobs.specs.Handing.{succeeded}
 use Rattle.jobs.proofs.succeed.Statement.{statement}
 use Rattle.jobs.proofs.succeed.Tie as tie
-use Rattle.jobs.proofs.succeed.Reads as reads
-use Rattle.jobs.proofs.succeed.Lts as lts
 
 returns : tie.Need-returns
 unfolding succeeded

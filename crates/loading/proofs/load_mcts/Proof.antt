@@ -1,30 +1,29 @@
 -- `loading::load_mcts` meets its contract. Assumes nothing.
 use borrow.Author.Needs.{needs}
-use mathlib.Core.Path.{_≡_, refl, sym, _∙_}
+use mathlib.Core.Path.{_≡_, refl, _∙_}
 use mathlib.Core.List.{[]}
 use Prim.Native.Nat.{_-_, _≤_}
 use native.Mathlib.Omega.{arith}
 use denote.Ref.{now}
-use lib.ListN.{length, take, drop}
-use Rattle.reduction.specs.Bounds.{Bounds}
-use Rattle.reduction.proofs.Bounding.{bounds-none}
+use lib.ListN.{length, drop}
 use Rattle.text.specs.Reading.{cut}
-use Rattle.text.specs.Judging.{cascade, judge-lines, read-all}
+use Rattle.text.specs.declared.Kind.the-variants.{Cascade}
+use Rattle.text.specs.Judging.{judge-lines, read-all}
 use Rattle.loading.proofs.Loading.{Loading, start, loaded, refused, count-few, count-there, total-few, mct-few, mct-addable, mct-loaded}
 use Rattle.loading.proofs.load_mcts.Statement.{statement}
 use Rattle.loading.proofs.load_mcts.Tie as tie
 
 abbrev Inv-loop : tie.InvT-loop
-Inv-loop s from head list₀ at₀ before₀ total₀ n₀ last₀ list at before total n last =
-    (at ≤ length s) × (before ≤ 256) × (total ≤ 4096) × (length list ≡ length list₀) × Loading cascade head (judge-lines cascade head 0 [] (read-all (cut (drop from s)))) s list at before total n × Bounds (take n list) last
+Inv-loop s from head list₀ at₀ before₀ total₀ n₀ list at before total n =
+    (at ≤ length s) × (before ≤ 256) × (total ≤ 4096) × (length list ≡ length list₀) × Loading Cascade head (judge-lines Cascade head 0 [] (read-all (cut (drop from s)))) s list at before total n
 
 abbrev μ-loop : tie.MeasureT-loop
-μ-loop s from head list₀ at₀ before₀ total₀ n₀ last₀ list at before total n last = length s - at
+μ-loop s from head list₀ at₀ before₀ total₀ n₀ list at before total n = length s - at
 
 loop-holds : tie.Need-loop-holds Inv-loop μ-loop
 loop-holds c =
     let b = c .before .before in
-    (b .pre .0, omega arith, omega arith, refl, start cascade (b .args .head) (now (b .args .s)) _ (b .args .from), bounds-none _ refl)
+    (b .pre .0, omega arith, omega arith, refl, start Cascade (b .args .head) (now (b .args .s)) _ (b .args .from) (b .pre .1 .1))
 
 cascade-line-requires : tie.Need-cascade-line-requires Inv-loop μ-loop
 cascade-line-requires c κs =
@@ -34,23 +33,20 @@ cascade-line-requires c κs =
 enum-known-answer : tie.Need-enum-known-answer Inv-loop μ-loop
 enum-known-answer c = search needs
 
-slice-aggregate-add-mct : tie.Need-slice-aggregate-add-mct Inv-loop μ-loop
-slice-aggregate-add-mct c = sym (c .before .before .before .before .before .before .before .before .loop .inv .5 .size)
-
 add-mct-requires : tie.Need-add-mct-requires Inv-loop μ-loop
 add-mct-requires c κs =
-    let y = c .before .before .before in
+    let y = c .before .before in
     let z = y .before .before .before in
     let b = z .before .before in
     let w = b .loop .inv .4 in
     let n = b .before .before .before .pre .1 .0 .1 in
     let x = rw (y .answer .given .1) at (z .cascade-line .ensures .0) in
     let e = x .2 (w .made) (w .count) in
-    (count-there {cs = x .0} n w (x .1) e, (mct-addable {cs = x .0} n w (x .1) e (omega (arith, b .loop .inv .3, b .before .before .before .pre .1 .1)), b .loop .inv .5))
+    (count-there {cs = x .0} n w (x .1) e, mct-addable {cs = x .0} n w (x .1) e (omega (arith, b .loop .inv .3, b .before .before .before .pre .1 .1)))
 
 count-requires : tie.Need-count-requires Inv-loop μ-loop
 count-requires c κs =
-    let y = c .before .before .before .before .before .before .before in
+    let y = c .before .before .before .before .before in
     let z = y .before .before .before in
     let b = z .before .before in
     let w = b .loop .inv .4 in
@@ -59,7 +55,7 @@ count-requires c κs =
 
 add-total : tie.Need-add-total Inv-loop μ-loop
 add-total c =
-    let y = c .before .before .before .before .before .before .before .before in
+    let y = c .before .before .before .before .before .before in
     let z = y .before .before .before in
     let b = z .before .before in
     let w = b .loop .inv .4 in
@@ -71,15 +67,15 @@ add-before c = search needs
 
 loop-less : tie.Need-loop-less Inv-loop μ-loop
 loop-less c =
-    let y = c .before .before .before .before .before .before .before .before in
+    let y = c .before .before .before .before .before .before in
     let z = y .before .before .before in
     let a = rw (y .answer .given .1) at (z .cascade-line .ensures .1) in
     omega (arith, a .0, z .before .loop-test .taken)
 
 loop-again : tie.Need-loop-again Inv-loop μ-loop
 loop-again c =
-    let m = c .before .before .before .before in
-    let y = m .before .before .before .before in
+    let m = c .before .before .before in
+    let y = m .before .before .before in
     let z = y .before .before .before in
     let b = z .before .before in
     let w = b .loop .inv .4 in
@@ -87,12 +83,11 @@ loop-again c =
     let x = rw (y .answer .given .1) at (z .cascade-line .ensures .0) in
     let a = rw (y .answer .given .1) at (z .cascade-line .ensures .1) in
     let e = x .2 (w .made) (w .count) in (
-      a .1,
+      omega (arith, a .1),
       mct-few {cs = x .0} n w (x .1) e,
       omega (arith, total-few {cs = x .0} n w (x .1) e, c .count .ensures),
       m .add-mct .kept .1 .1 .1 .0 ∙ b .loop .inv .3,
-      mct-loaded {cs = x .0} n w (x .1) e refl (z .before .loop-test .taken) (c .count .ensures) (m .add-mct .ensures .0),
-      m .add-mct .ensures .1,
+      mct-loaded {cs = x .0} n w (x .1) e refl (z .before .loop-test .taken) (c .count .ensures) (m .add-mct .ensures),
     )
 
 enum-known-answer-2 : tie.Need-enum-known-answer-2 Inv-loop μ-loop
@@ -126,7 +121,6 @@ load-mcts-spec =
     loop-holds
     cascade-line-requires
     enum-known-answer
-    slice-aggregate-add-mct
     add-mct-requires
     count-requires
     add-total

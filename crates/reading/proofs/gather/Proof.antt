@@ -1,13 +1,12 @@
 -- `reading::gather` meets its contract. Assumes nothing.
-use mathlib.Core.Path.{_≡_, sym, ap, _∙_}
+use mathlib.Core.Path.{_≡_, ap, _∙_}
 use Prim.Native.Nat.{ℕ, _+_, _-_, _≤_}
 use native.Mathlib.Omega.{arith}
 use lib.ListN.{length, drop, length-drop}
 use borrow.Author.Needs.{needs}
 use Rattle.text.specs.Reading.{controls}
 use Rattle.reading.specs.declared.Controls.{Controls}
-use Rattle.reading.specs.Seen.{no-controls, noted, gathered, all-gathered, seen-control}
-use Rattle.reading.proofs.Places.{told}
+use Rattle.reading.specs.Seen.{no-controls, noted, gathered, all-gathered}
 use Rattle.reading.proofs.Gathering.{rest, rest-none, rest-last, rest-more}
 use Rattle.reading.proofs.gather.Statement.{statement}
 use Rattle.reading.proofs.gather.Tie as tie
@@ -40,12 +39,12 @@ enum-known-c c = search needs
 
 note-requires : tie.Need-note-requires Inv-loop μ-loop
 note-requires c κs =
-    let h = rw (c .before .c .given .1) at (c .before .before .before .one-control .ensures .1) in
+    let h = rw (c .before .c .given .1) at (c .before .before .before .one-control .ensures) in
     omega arith
 
 loop-less : tie.Need-loop-less Inv-loop μ-loop
 loop-less c =
-    let h = rw (c .before .before .c .given .1) at (c .before .before .before .before .one-control .ensures .1) in
+    let h = rw (c .before .before .c .given .1) at (c .before .before .before .before .one-control .ensures) in
     omega arith
 
 loop-again : tie.Need-loop-again Inv-loop μ-loop
@@ -55,10 +54,9 @@ loop-again c =
     let l = o .before in
     let s = l .before .before .before .args .s .now in
     let q = m .c .given .0 in
-    let e = told (seen-control s) (o .one-control .ensures .0) (m .c .given .1) in
-    let h = rw (m .c .given .1) at (o .one-control .ensures .1) in
+    let h = rw (m .c .given .1) at (o .one-control .ensures) in
     let v = l .loop .inv .3 in
-    let w = rest-more s (l .loop .sum) (v .0) (l .loop .p) (q .1 .0) (q .0) e (omega arith) (v .1) in
+    let w = rest-more s (l .loop .sum) (v .0) (l .loop .p) (q .1 .0) (q .0) (h .0) (omega arith) (v .1) in
     let n = c .note .ensures in
     let z : c .note .result .count ≡ l .loop .sum .count + 1 = unfold noted in ap (λ (x : Controls). x .count) n in
     (omega arith, omega arith, omega arith, (w .0, omega (arith, w .1), rw n (v .2 ∙ w .2)))
@@ -68,7 +66,7 @@ enum-known-c-2 c = search needs
 
 note-requires-2 : tie.Need-note-requires-2 Inv-loop μ-loop
 note-requires-2 c κs =
-    let h = rw (c .before .c2 .given .1) at (c .before .before .before .one-control .ensures .1) in
+    let h = rw (c .before .c2 .given .1) at (c .before .before .before .one-control .ensures) in
     omega arith
 
 returns : tie.Need-returns Inv-loop μ-loop
@@ -78,12 +76,11 @@ returns c =
     let l = o .before in
     let s = l .before .before .before .args .s .now in
     let q = m .c2 .given .0 in
-    let e = told (seen-control s) (o .one-control .ensures .0) (m .c2 .given .1) in
-    let h = rw (m .c2 .given .1) at (o .one-control .ensures .1) in
+    let h = rw (m .c2 .given .1) at (o .one-control .ensures) in
     let v = l .loop .inv .3 in
     let n = c .note2 .ensures in
-    let w = rest-last s (l .loop .sum) (v .0) (l .loop .p) (q .1 .0) (q .0) e (omega arith) (v .1) in
-    (rw n (sym (v .2 ∙ w)), (omega arith, omega arith))
+    let w = rest-last s (l .loop .sum) (v .0) (l .loop .p) (q .1 .0) (q .0) (h .0) (omega arith) (v .1) in
+    (rw n (v .2 ∙ w), omega arith, omega arith)
 
 enum-told : tie.Need-enum-told Inv-loop μ-loop
 enum-told c = search needs
@@ -93,9 +90,9 @@ returns-2 c =
     let o = c .before .before in
     let l = o .before in
     let s = l .before .before .before .args .s .now in
-    let e = told (seen-control s) (o .one-control .ensures .0) (c .enum-told .given .1) in
+    let h = rw (c .enum-told .given .1) at (o .one-control .ensures) in
     let v = l .loop .inv .3 in
-    (sym (v .2 ∙ rest-none s (l .loop .sum) (v .0) (l .loop .p) e), tt)
+    v .2 ∙ rest-none s (l .loop .sum) (v .0) (l .loop .p) h
 
 pub gather-spec : {M : Type 1} → statement M
 gather-spec =

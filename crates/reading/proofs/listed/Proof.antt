@@ -1,7 +1,6 @@
 -- `reading::listed` meets its contract. Assumes nothing.
 use Rattle.text.specs.Reading.{list}
-use Rattle.reading.specs.Seen.{noted-all, gathered, all-gathered, seen-found}
-use Rattle.reading.proofs.Places.{told}
+use Rattle.reading.specs.Seen.{noted-all, gathered, all-gathered}
 use borrow.Author.Needs.{needs}
 use Rattle.reading.proofs.listed.Statement.{statement}
 use Rattle.reading.proofs.listed.Tie as tie
@@ -22,10 +21,8 @@ returns : tie.Need-returns
 unfolding list all-gathered gathered noted-all
 returns c =
     let p = c .before .before in
-    let w = p .before .before in
-    let s = w .before .before .before .args .s .now in
-    let h = rw (p .p .given .1) at (w .word .ensures .1) in
-    (rw (told (seen-found s) (w .word .ensures .0) (p .p .given .1), c .no-controls .ensures), h)
+    let h = rw (p .p .given .1) at (p .before .before .word .ensures) in
+    (rw (h .0, c .no-controls .ensures), h .1, h .2)
 
 enum-told : tie.Need-enum-told
 enum-told c = search needs
@@ -36,9 +33,7 @@ gather-requires c κs = search needs
 returns-2 : tie.Need-returns-2
 unfolding list
 returns-2 c =
-    let w = c .before .before .before in
-    let s = w .before .before .before .args .s .now in
-    (rw (told (seen-found s) (w .word .ensures .0) (c .before .enum-told .given .1)) (c .gather .ensures .0), c .gather .ensures .1)
+    rw (rw (c .before .enum-told .given .1) at (c .before .before .before .word .ensures)) (c .gather .ensures)
 
 pub listed-spec : {M : Type 1} → statement M
 listed-spec =

@@ -36,8 +36,8 @@ returns c =
     let listed : l .if2 .listed ≡ set (a .listed) (a .count) x =
     ⊎-elim (λ w. w .1) (λ w. w .1 ∙ sym (set-out (a .listed) (a .count) x (let o = w .0 .left in omega arith))) (l .if2 .came) in
     let rising : c .before .if3 .rising ≡ a .rising && (eqb (a .count) 0 || ltb (a .last) x) =
-    ⊎-elim (λ w. w .3 ∙ sym (rises-not (a .rising) (a .count) (a .last) x (w .0 .taken) (w .2 .taken)))
-    (⊎-elim (λ w. w .3 ∙ sym (rises-on (a .rising) (a .count) (a .last) x (w .0 .taken) (w .2 .left)))
+    ⊎-elim (λ w. w .3 ∙ sym (rises-not (a .rising) (a .count) (a .last) x (w .0 .taken) (let o = w .2 .taken in omega arith)))
+    (⊎-elim (λ w. w .3 ∙ sym (rises-on (a .rising) (a .count) (a .last) x (w .0 .taken) (let o = w .2 .left in omega arith)))
     (λ w. w .1 ∙ sym (rises-first (a .rising) (a .count) (a .last) x (w .0 .left)))) (c .before .if3 .came) in
     let largest : c .if5 .largest ≡ max (a .largest) x =
     ⊎-elim (λ w. let o = w .0 .taken in omega (arith, w .1)) (λ w. let o = w .0 .left in omega (arith, w .1)) (c .if5 .came) in

@@ -1,109 +1,83 @@
 -- `reading::one_control` meets its contract. Assumes nothing.
-use native.Mathlib.Omega.{arith}
-use Rattle.text.specs.Reading.{control}
-use Rattle.reading.specs.Seen.{seen-number, seen-found}
-use Rattle.reading.proofs.Places.{told}
+use lib.ListN.{drop}
+use Rattle.reading.proofs.Lines.{control-delimited}
 use borrow.Author.Needs.{needs}
 use Rattle.reading.proofs.one_control.Statement.{statement}
 use Rattle.reading.proofs.one_control.Tie as tie
 
-one-number-requires : tie.Need-one-number-requires
-one-number-requires c κs = search needs
+slice-aggregate-delimited-number : tie.Need-slice-aggregate-delimited-number
+slice-aggregate-delimited-number c = search needs
+
+slice-aggregate-delimited-number-2 : tie.Need-slice-aggregate-delimited-number-2
+slice-aggregate-delimited-number-2 c = search needs
+
+delimited-number-requires : tie.Need-delimited-number-requires
+delimited-number-requires c κs = search needs
 
 enum-known-c : tie.Need-enum-known-c
 enum-known-c c = search needs
 
+returns : tie.Need-returns
+returns c =
+    let m = c .before in
+    let n = m .before .before in
+    let a = n .before .before .before .before .args in
+    let i = rw (m .c .given .1) at (n .delimited-number .ensures) in
+    (rw (control-delimited (drop (a .at) (a .s .now)), i .0), i .1)
+
 enum-told : tie.Need-enum-told
 enum-told c = search needs
 
-returns : tie.Need-returns
-unfolding control
-returns c =
-    let n = c .before .before in
-    let s = n .before .before .args .s .now in
-    (rw (told (seen-number s) (n .one-number .ensures .0) (c .enum-told .given .1)), tt)
+slice-aggregate-delimited-number-3 : tie.Need-slice-aggregate-delimited-number-3
+slice-aggregate-delimited-number-3 c = search needs
 
-slice-aggregate-word : tie.Need-slice-aggregate-word
-slice-aggregate-word c = search needs
+slice-aggregate-delimited-number-4 : tie.Need-slice-aggregate-delimited-number-4
+slice-aggregate-delimited-number-4 c = search needs
 
-word-requires : tie.Need-word-requires
-word-requires c κs =
-    let n = c .before .before .before .before in
-    let h = rw (c .before .before .c .given .1) at (n .one-number .ensures .1) in
-    h .2
+delimited-number-requires-2 : tie.Need-delimited-number-requires-2
+delimited-number-requires-2 c κs = search needs
 
-enum-known-q : tie.Need-enum-known-q
-enum-known-q c = search needs
-
-returns-2 : tie.Need-returns-2
-unfolding control
-returns-2 c =
-    let q = c .before in
-    let w = q .before .before in
-    let m = w .before .before .before in
-    let n = m .before .before in
-    let s = n .before .before .args .s .now in
-    let h = rw (m .c .given .1) at (n .one-number .ensures .1) in
-    let k = rw (q .q .given .1) at (w .word .ensures .1) in
-    (rw (told (seen-number s) (n .one-number .ensures .0) (m .c .given .1), told (seen-found s) (w .word .ensures .0) (q .q .given .1)), (omega arith, omega arith, omega arith))
+enum-known-c-2 : tie.Need-enum-known-c-2
+enum-known-c-2 c = search needs
 
 enum-told-2 : tie.Need-enum-told-2
 enum-told-2 c = search needs
 
-slice-aggregate-word-2 : tie.Need-slice-aggregate-word-2
-slice-aggregate-word-2 c = search needs
-
-word-requires-2 : tie.Need-word-requires-2
-word-requires-2 c κs =
-    let m = c .before .before .before .before .before .before in
-    let h = rw (m .c .given .1) at (m .before .before .one-number .ensures .1) in
-    h .2
-
-enum-known-q-2 : tie.Need-enum-known-q-2
-enum-known-q-2 c = search needs
-
-enum-told-3 : tie.Need-enum-told-3
-enum-told-3 c = search needs
+returns-2 : tie.Need-returns-2
+returns-2 c =
+    let n = c .before .before in
+    let m = n .before .before .before in
+    let l = m .before .before in
+    let a = l .before .before .before .before .args in
+    let i = rw (m .enum-told .given .1) at (l .delimited-number .ensures) in
+    let j = rw (c .enum-told2 .given .1) at (n .delimited-number2 .ensures) in
+    rw (control-delimited (drop (a .at) (a .s .now)), i, j)
 
 returns-3 : tie.Need-returns-3
-unfolding control
 returns-3 c =
-    let v = c .before .before in
-    let w = v .before .before .before .before in
-    let m = w .before .before .before in
-    let n = m .before .before in
-    let s = n .before .before .args .s .now in
-    (rw (told (seen-number s) (n .one-number .ensures .0) (m .c .given .1), told (seen-found s) (w .word .ensures .0) (v .before .before .enum-told2 .given .1), told (seen-found s) (v .word2 .ensures .0) (c .enum-told3 .given .1)), tt)
-
-returns-4 : tie.Need-returns-4
-unfolding control
-returns-4 c =
-    let q = c .before in
-    let v = q .before .before in
-    let w = v .before .before .before .before in
-    let m = w .before .before .before in
-    let n = m .before .before in
-    let s = n .before .before .args .s .now in
-    let h = rw (m .c .given .1) at (n .one-number .ensures .1) in
-    let k = rw (q .q2 .given .1) at (v .word2 .ensures .1) in
-    (rw (told (seen-number s) (n .one-number .ensures .0) (m .c .given .1), told (seen-found s) (w .word .ensures .0) (v .before .before .enum-told2 .given .1), told (seen-found s) (v .word2 .ensures .0) (q .q2 .given .1)), (omega arith, omega arith, omega arith))
+    let t = c .before in
+    let n = t .before .before in
+    let m = n .before .before .before in
+    let l = m .before .before in
+    let a = l .before .before .before .before .args in
+    let i = rw (m .enum-told .given .1) at (l .delimited-number .ensures) in
+    let j = rw (t .c2 .given .1) at (n .delimited-number2 .ensures) in
+    (rw (control-delimited (drop (a .at) (a .s .now)), i, j .0), j .1)
 
 pub one-control-spec : {M : Type 1} → statement M
 one-control-spec =
     tie.close
     (tie.spec
-    one-number-requires
+    slice-aggregate-delimited-number
+    slice-aggregate-delimited-number-2
+    delimited-number-requires
     enum-known-c
-    enum-told
     returns
-    slice-aggregate-word
-    word-requires
-    enum-known-q
-    returns-2
+    enum-told
+    slice-aggregate-delimited-number-3
+    slice-aggregate-delimited-number-4
+    delimited-number-requires-2
+    enum-known-c-2
     enum-told-2
-    slice-aggregate-word-2
-    word-requires-2
-    enum-known-q-2
-    enum-told-3
-    returns-3
-    returns-4)
+    returns-2
+    returns-3)

@@ -1,9 +1,8 @@
 -- `reading::one_number` meets its contract. Assumes nothing.
-use mathlib.Core.Path.{sym, _∙_}
-use Prim.Native.Nat.{_+_, _-_}
+use Prim.Native.Nat.{_+_}
 use native.Mathlib.Omega.{arith}
 use lib.ListN.{getD}
-use Rattle.reading.proofs.Places.{digit-low, digit-high, num-end, num-other, num-zero, num-more, second-end, second-other, second-yes}
+use Rattle.reading.proofs.Places.{digit-low, digit-high, num-end, num-other, num-zero, num-last, num-one, num-two}
 use borrow.Author.Needs.{needs}
 use Rattle.reading.proofs.one_number.Statement.{statement}
 use Rattle.reading.proofs.one_number.Tie as tie
@@ -11,9 +10,7 @@ use Rattle.reading.proofs.one_number.Tie as tie
 returns : tie.Need-returns
 returns c =
     let a = c .before .args in
-    let t = a .s .now in
-    let x = a .at in
-    (sym (num-end t x (omega arith)), tt)
+    num-end (a .s .now) (a .at) (omega arith)
 
 shared-slice-read-a : tie.Need-shared-slice-read-a
 shared-slice-read-a c = search needs
@@ -21,16 +18,12 @@ shared-slice-read-a c = search needs
 returns-2 : tie.Need-returns-2
 returns-2 c =
     let a = c .before .before .before .args in
-    let t = a .s .now in
-    let x = a .at in
-    (sym (num-other t x (omega arith) (digit-low (getD t x 0) (omega arith))), tt)
+    num-other (a .s .now) (a .at) (omega arith) (digit-low (getD (a .s .now) (a .at) 0) (omega arith))
 
 returns-3 : tie.Need-returns-3
 returns-3 c =
     let a = c .before .before .before .before .args in
-    let t = a .s .now in
-    let x = a .at in
-    (sym (num-other t x (omega arith) (digit-high (getD t x 0) (omega arith))), tt)
+    num-other (a .s .now) (a .at) (omega arith) (digit-high (getD (a .s .now) (a .at) 0) (omega arith))
 
 add-p : tie.Need-add-p
 add-p c = search needs
@@ -38,16 +31,12 @@ add-p c = search needs
 returns-4 : tie.Need-returns-4
 returns-4 c =
     let a = c .before .before .before .before .before .args in
-    let t = a .s .now in
-    let x = a .at in
-    (sym (num-zero t x (omega arith) (omega arith)), (omega arith, omega arith, omega arith))
+    (num-zero (a .s .now) (a .at) (omega arith) (omega arith), (omega arith, omega arith))
 
 returns-5 : tie.Need-returns-5
 returns-5 c =
     let a = c .before .before .before .before .before .before .args in
-    let t = a .s .now in
-    let x = a .at in
-    (sym (num-more t x (omega arith) (omega arith) (omega arith) (c .before .if4 .left) ∙ second-end (getD t x 0 - 48) t (x + 1) (omega arith)), (omega arith, omega arith, omega arith))
+    (num-last (a .s .now) (a .at) (omega arith) (omega arith) (omega arith) (omega arith), (omega arith, omega arith))
 
 shared-slice-read-b : tie.Need-shared-slice-read-b
 shared-slice-read-b c = search needs
@@ -55,16 +44,12 @@ shared-slice-read-b c = search needs
 returns-6 : tie.Need-returns-6
 returns-6 c =
     let a = c .before .before .before .before .before .before .before .before .args in
-    let t = a .s .now in
-    let x = a .at in
-    (sym (num-more t x (omega arith) (omega arith) (omega arith) (c .before .before .before .if4 .left) ∙ second-other (getD t x 0 - 48) t (x + 1) (omega arith) (digit-low (getD t (x + 1) 0) (omega arith))), (omega arith, omega arith, omega arith))
+    (num-one (a .s .now) (a .at) (omega arith) (omega arith) (omega arith) (omega arith) (digit-low (getD (a .s .now) (a .at + 1) 0) (omega arith)), (omega arith, omega arith))
 
 returns-7 : tie.Need-returns-7
 returns-7 c =
     let a = c .before .before .before .before .before .before .before .before .before .args in
-    let t = a .s .now in
-    let x = a .at in
-    (sym (num-more t x (omega arith) (omega arith) (omega arith) (c .before .before .before .before .if4 .left) ∙ second-other (getD t x 0 - 48) t (x + 1) (omega arith) (digit-high (getD t (x + 1) 0) (omega arith))), (omega arith, omega arith, omega arith))
+    (num-one (a .s .now) (a .at) (omega arith) (omega arith) (omega arith) (omega arith) (digit-high (getD (a .s .now) (a .at + 1) 0) (omega arith)), (omega arith, omega arith))
 
 mul-t14 : tie.Need-mul-t14
 mul-t14 c = search needs
@@ -78,9 +63,7 @@ add-t6 c = search needs
 returns-8 : tie.Need-returns-8
 returns-8 c =
     let a = c .before .before .before .before .before .before .before .before .before .args in
-    let t = a .s .now in
-    let x = a .at in
-    (sym (num-more t x (omega arith) (omega arith) (omega arith) (c .before .before .before .before .if4 .left) ∙ second-yes (getD t x 0 - 48) t (x + 1) (omega arith) (omega arith) (omega arith)), (omega arith, omega arith, omega arith))
+    (num-two (a .s .now) (a .at) (omega arith) (omega arith) (omega arith) (c .before .before .before .before .if4 .left) (omega arith) (omega arith) (omega arith), (omega arith, omega arith))
 
 pub one-number-spec : {M : Type 1} → statement M
 one-number-spec =

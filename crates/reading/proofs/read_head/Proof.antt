@@ -1,78 +1,46 @@
 -- `reading::read_head` meets its contract. Assumes nothing.
-use native.Mathlib.Omega.{arith}
 use lib.ListN.{drop}
-use Rattle.text.specs.Reading.{lines-body}
-use Rattle.reading.specs.Seen.{seen-number, seen-found, only-head}
-use Rattle.reading.proofs.Places.{told}
-use Rattle.reading.proofs.Lines.{parse-lines, no-head}
+use Rattle.reading.proofs.Lines.{head-is}
 use borrow.Author.Needs.{needs}
 use Rattle.reading.proofs.read_head.Statement.{statement}
 use Rattle.reading.proofs.read_head.Tie as tie
 
-slice-aggregate-word : tie.Need-slice-aggregate-word
-slice-aggregate-word c = search needs
+slice-aggregate-delimited-number : tie.Need-slice-aggregate-delimited-number
+slice-aggregate-delimited-number c = search needs
 
-word-requires : tie.Need-word-requires
-word-requires c κs = search needs
+slice-aggregate-delimited-number-2 : tie.Need-slice-aggregate-delimited-number-2
+slice-aggregate-delimited-number-2 c = search needs
 
-enum-known-p : tie.Need-enum-known-p
-enum-known-p c = search needs
+delimited-number-requires : tie.Need-delimited-number-requires
+delimited-number-requires c κs = search needs
+
+enum-known-n : tie.Need-enum-known-n
+enum-known-n c = search needs
 
 enum-told : tie.Need-enum-told
 enum-told c = search needs
 
 returns : tie.Need-returns
 returns c =
-    let w = c .before .before in
-    let a = w .before .before .before .args in
-    let s = a .s .now in
-    (rw (no-head (drop (a .at) s) (told (seen-found s) (w .word .ensures .0) (c .enum-told .given .1))), tt)
-
-last-number-requires : tie.Need-last-number-requires
-last-number-requires c κs =
-    let h = rw (c .before .p .given .1) at (c .before .before .before .word .ensures .1) in
-    h .1
-
-enum-known-n : tie.Need-enum-known-n
-enum-known-n c = search needs
-
-enum-told-2 : tie.Need-enum-told-2
-enum-told-2 c = search needs
+    let n = c .before .before in
+    let a = n .before .before .before .before .args in
+    (rw (head-is (drop (a .at) (a .s .now)), rw (c .enum-told .given .1) at (n .delimited-number .ensures)), tt)
 
 returns-2 : tie.Need-returns-2
-unfolding lines-body only-head
 returns-2 c =
-    let l = c .before .before in
-    let p = l .before .before in
-    let w = p .before .before in
-    let a = w .before .before .before .args in
-    let s = a .s .now in
-    (rw (parse-lines (drop (a .at) s) (drop (p .p .given .0 .0) s) (told (seen-found s) (w .word .ensures .0) (p .p .given .1)), told (seen-number s) (l .last-number .ensures .0) (c .enum-told2 .given .1)), tt)
-
-returns-3 : tie.Need-returns-3
-unfolding lines-body only-head
-returns-3 c =
-    let n = c .before in
-    let l = n .before .before in
-    let p = l .before .before in
-    let w = p .before .before in
-    let a = w .before .before .before .args in
-    let s = a .s .now in
-    let h = rw (p .p .given .1) at (w .word .ensures .1) in
-    let k = rw (n .n .given .1) at (l .last-number .ensures .1) in
-    (rw (parse-lines (drop (a .at) s) (drop (p .p .given .0 .0) s) (told (seen-found s) (w .word .ensures .0) (p .p .given .1)), told (seen-number s) (l .last-number .ensures .0) (n .n .given .1)), (omega arith, omega arith))
+    let n = c .before .before .before in
+    let a = n .before .before .before .before .args in
+    let i = rw (c .before .n .given .1) at (n .delimited-number .ensures) in
+    (rw (head-is (drop (a .at) (a .s .now)), i .0), i .1)
 
 pub read-head-spec : {M : Type 1} → statement M
 read-head-spec =
     tie.close
     (tie.spec
-    slice-aggregate-word
-    word-requires
-    enum-known-p
+    slice-aggregate-delimited-number
+    slice-aggregate-delimited-number-2
+    delimited-number-requires
+    enum-known-n
     enum-told
     returns
-    last-number-requires
-    enum-known-n
-    enum-told-2
-    returns-2
-    returns-3)
+    returns-2)

@@ -1,10 +1,7 @@
 -- `reading::read_mct` meets its contract. Assumes nothing.
 use native.Mathlib.Omega.{arith}
 use lib.ListN.{drop}
-use Rattle.text.specs.Reading.{got, bind}
-use Rattle.reading.specs.Seen.{seen-found, with-gathered}
-use Rattle.reading.proofs.Places.{told}
-use Rattle.reading.proofs.Lines.{parse-mct, no-mct, mct-gathered, end-target, mct-later}
+use Rattle.reading.proofs.Lines.{mct-is}
 use borrow.Author.Needs.{needs}
 use Rattle.reading.proofs.read_mct.Statement.{statement}
 use Rattle.reading.proofs.read_mct.Tie as tie
@@ -25,17 +22,15 @@ no-controls-requires : tie.Need-no-controls-requires
 no-controls-requires c κs = search needs
 
 returns : tie.Need-returns
-unfolding with-gathered
 returns c =
     let w = c .before .before .before in
     let a = w .before .before .before .args in
-    let s = a .s .now in
-    (rw (no-mct (drop (a .at) s) (told (seen-found s) (w .word .ensures .0) (c .before .enum-told .given .1))), tt)
+    (rw (mct-is (drop (a .at) (a .s .now)), rw (c .before .enum-told .given .1) at (w .word .ensures)), tt)
 
 listed-requires : tie.Need-listed-requires
 listed-requires c κs =
-    let h = rw (c .before .p .given .1) at (c .before .before .before .word .ensures .1) in
-    h .1
+    let i = rw (c .before .p .given .1) at (c .before .before .before .word .ensures) in
+    i .2
 
 enum-known-bracket : tie.Need-enum-known-bracket
 enum-known-bracket c = search needs
@@ -49,32 +44,54 @@ returns-2 c =
     let p = l .before .before in
     let w = p .before .before in
     let a = w .before .before .before .args in
-    let s = a .s .now in
-    let q = drop (p .p .given .0 .0) s in
-    let e = parse-mct (drop (a .at) s) q (told (seen-found s) (w .word .ensures .0) (p .p .given .1)) in
-    let g = told (λ x. bind (seen-found s x) (λ _. got (l .listed .result .controls))) (l .listed .ensures .0) (c .enum-told2 .given .1) in
-    (rw (e, mct-gathered q, g), tt)
+    let i = rw (p .p .given .1) at (w .word .ensures) in
+    let j = rw (c .enum-told2 .given .1) at (l .listed .ensures) in
+    (rw (mct-is (drop (a .at) (a .s .now)), i .0, j), tt)
 
-target-requires : tie.Need-target-requires
-target-requires c κs =
-    let h = rw (c .before .bracket .given .1) at (c .before .before .before .before .listed .ensures .1) in
-    h .1
+slice-aggregate-delimited-number : tie.Need-slice-aggregate-delimited-number
+slice-aggregate-delimited-number c = search needs
+
+slice-aggregate-delimited-number-2 : tie.Need-slice-aggregate-delimited-number-2
+slice-aggregate-delimited-number-2 c = search needs
+
+delimited-number-requires : tie.Need-delimited-number-requires
+delimited-number-requires c κs =
+    let b = c .before .before .before in
+    let j = rw (b .bracket .given .1) at (b .before .before .before .listed .ensures) in
+    j .2
+
+enum-known-t : tie.Need-enum-known-t
+enum-known-t c = search needs
+
+enum-told-3 : tie.Need-enum-told-3
+enum-told-3 c = search needs
 
 returns-3 : tie.Need-returns-3
 returns-3 c =
-    let b = c .before .before in
+    let n = c .before .before in
+    let b = n .before .before .before .before in
     let l = b .before .before .before in
     let p = l .before .before in
     let w = p .before .before in
     let a = w .before .before .before .args in
-    let s = a .s .now in
-    let r = p .p .given .0 .0 in
-    let q = b .bracket .given .0 .0 in
-    let e = parse-mct (drop (a .at) s) (drop r s) (told (seen-found s) (w .word .ensures .0) (p .p .given .1)) in
-    let g = told (λ x. bind (seen-found s x) (λ _. got (l .listed .result .controls))) (l .listed .ensures .0) (b .bracket .given .1) in
-    let h = rw (p .p .given .1) at (w .word .ensures .1) in
-    let k = rw (b .bracket .given .1) at (l .listed .ensures .1) in
-    (rw (e, mct-gathered (drop r s), g, ← c .target .ensures .0) (end-target s (c .target .result) (l .listed .result .controls)), mct-later s (a .at) q (c .target .result) (omega arith) (c .target .ensures .1))
+    let i = rw (p .p .given .1) at (w .word .ensures) in
+    let j = rw (b .bracket .given .1) at (l .listed .ensures) in
+    let k = rw (c .enum-told3 .given .1) at (n .delimited-number .ensures) in
+    (rw (mct-is (drop (a .at) (a .s .now)), i .0, j .0, k), tt)
+
+returns-4 : tie.Need-returns-4
+returns-4 c =
+    let t = c .before in
+    let n = t .before .before in
+    let b = n .before .before .before .before in
+    let l = b .before .before .before in
+    let p = l .before .before in
+    let w = p .before .before in
+    let a = w .before .before .before .args in
+    let i = rw (p .p .given .1) at (w .word .ensures) in
+    let j = rw (b .bracket .given .1) at (l .listed .ensures) in
+    let k = rw (t .t .given .1) at (n .delimited-number .ensures) in
+    (rw (mct-is (drop (a .at) (a .s .now)), i .0, j .0, k .0), (omega arith, omega arith))
 
 pub read-mct-spec : {M : Type 1} → statement M
 read-mct-spec =
@@ -90,5 +107,10 @@ read-mct-spec =
     enum-known-bracket
     enum-told-2
     returns-2
-    target-requires
-    returns-3)
+    slice-aggregate-delimited-number
+    slice-aggregate-delimited-number-2
+    delimited-number-requires
+    enum-known-t
+    enum-told-3
+    returns-3
+    returns-4)

@@ -1,6 +1,6 @@
 -- `reading::word` meets its contract. Assumes nothing.
 use borrow.Author.Needs.{needs}
-use mathlib.Core.Path.{_≡_, sym, _∙_}
+use mathlib.Core.Path.{_≡_, _∙_}
 use Prim.Native.Nat.{_+_, _-_, _≤_}
 use native.Mathlib.Omega.{arith}
 use native.Mathlib.Nat.{add-zero}
@@ -26,9 +26,7 @@ returns : tie.Need-returns Inv-loop μ-loop
 returns c =
     let l = c .before .before in
     let a = l .before .args in
-    let t = a .s .now in
-    let w = a .w .now in
-    (sym (l .loop .inv .2 ∙ strip-end t w (a .at) (l .loop .k) (omega arith) (omega arith)), tt)
+    l .loop .inv .2 ∙ strip-end (a .s .now) (a .w .now) (a .at) (l .loop .k) (omega arith) (omega arith)
 
 add-if2 : tie.Need-add-if2 Inv-loop μ-loop
 add-if2 c = search needs
@@ -43,9 +41,7 @@ returns-2 : tie.Need-returns-2 Inv-loop μ-loop
 returns-2 c =
     let l = c .before .before .before .before .before in
     let a = l .before .args in
-    let t = a .s .now in
-    let w = a .w .now in
-    (sym (l .loop .inv .2 ∙ strip-other t w (a .at) (l .loop .k) (omega arith) (omega arith) (c .if2 .taken)), tt)
+    l .loop .inv .2 ∙ strip-other (a .s .now) (a .w .now) (a .at) (l .loop .k) (omega arith) (omega arith) (c .if2 .taken)
 
 add-k : tie.Need-add-k Inv-loop μ-loop
 add-k c = search needs
@@ -57,9 +53,7 @@ loop-again : tie.Need-loop-again Inv-loop μ-loop
 loop-again c =
     let l = c .before .before .before .before .before in
     let a = l .before .args in
-    let t = a .s .now in
-    let w = a .w .now in
-    (omega arith, omega arith, l .loop .inv .2 ∙ strip-same t w (a .at) (l .loop .k) (omega arith) (omega arith) (c .if2 .left))
+    (omega arith, omega arith, l .loop .inv .2 ∙ strip-same (a .s .now) (a .w .now) (a .at) (l .loop .k) (omega arith) (omega arith) (c .if2 .left))
 
 add-t12 : tie.Need-add-t12 Inv-loop μ-loop
 add-t12 c = search needs
@@ -68,9 +62,7 @@ returns-3 : tie.Need-returns-3 Inv-loop μ-loop
 returns-3 c =
     let l = c .before in
     let a = l .before .args in
-    let t = a .s .now in
-    let w = a .w .now in
-    (sym (l .loop .inv .2 ∙ strip-done t w (a .at) (l .loop .k) (omega arith)), (omega arith, omega arith))
+    (l .loop .inv .2 ∙ strip-done (a .s .now) (a .w .now) (a .at) (l .loop .k) (omega arith), omega arith, omega arith)
 
 pub word-spec : {M : Type 1} → statement M
 word-spec =

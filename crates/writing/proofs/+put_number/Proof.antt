@@ -7,7 +7,7 @@ use borrow.Author.Needs.{needs}
 use borrow.Fn.Kinds.{In}
 use borrow.Fn.PlainCycle.{Measures, is, falls, and}
 use Rattle.writing.proofs.Bytes.{both}
-use Rattle.writing.proofs.Numbers.{one-digit, more-digits, decimal-length}
+use Rattle.writing.proofs.Numbers.{one-digit, more-digits, decimal-length, tenth-length}
 use Rattle.writing.proofs.+put_number.{statement}
 use Rattle.writing.proofs.+put_number.Tie.{close}
 use Rattle.writing.proofs.put_number.Reads as put-number
@@ -46,7 +46,7 @@ module _ (t : ℕ) where
 
   put-number-put-number-requires : put-number-lts.Need-put-number-requires (claims t) (put-number-at t) put-number.Post
   put-number-put-number-requires c κs =
-      let h : 10 ≤ c .before .before .before .args .n = omega arith in (omega arith, omega (arith, decimal-length _ h))
+      (omega arith, omega (arith, tenth-length (c .before .before .before .args .n)))
 
   put-number-put-digit-requires-2 : put-number-lts.Need-put-digit-requires-2 (claims t) (put-number-at t) put-number.Post
   put-number-put-digit-requires-2 c κs =

@@ -1,6 +1,7 @@
--- `put_gate` writes a gate's line. Assumes nothing.
+-- `put_gate` writes a gate's line; by lengths there is room for a powered gate's. Assumes nothing.
+use native.Mathlib.Omega.{arith}
 use borrow.Author.Needs.{needs}
-use Rattle.writing.proofs.Lines.{not-parts, powered-parts}
+use Rattle.writing.proofs.Lines.{not-parts, powered-parts, length-two}
 use Rattle.writing.proofs.put_gate.Statement.{statement}
 use Rattle.writing.proofs.put_gate.Tie as tie
 
@@ -33,7 +34,7 @@ put-powered-requires c κs =
     let g = c .before .before in
     let s = g .before .before .before in
     let w = powered-parts (g .g2 .given .1) (s .pre .0) in
-    (w .power, rw (w .line) at (s .pre .1))
+    (w .power, simp length-two (omega (arith, simp length-two at (rw (w .line) at (s .pre .1)))))
 
 same-length : tie.Need-same-length
 same-length c = search needs

@@ -1,6 +1,7 @@
--- `put_powered` writes a powered gate's line with the word of its power. Assumes nothing.
+-- `put_powered` writes a powered gate's line with the word of its power; by lengths there is room for it. Assumes nothing.
+use native.Mathlib.Omega.{arith}
 use borrow.Author.Needs.{needs}
-use Rattle.writing.proofs.Lines.{word-v, word-cn, word-vp}
+use Rattle.writing.proofs.Lines.{word-v, word-cn, word-vp, length-two}
 use Rattle.writing.proofs.put_powered.Statement.{statement}
 use Rattle.writing.proofs.put_powered.Tie as tie
 
@@ -9,7 +10,7 @@ slice-aggregate-put-two c = search needs
 
 put-two-requires : tie.Need-put-two-requires
 put-two-requires c κs =
-    let i = c .before .before in rw (word-v _ (i .if1 .taken)) at (i .before .before .pre .1)
+    let i = c .before .before in simp length-two (omega (arith, simp length-two at (rw (word-v _ (i .if1 .taken)) at (i .before .before .pre .1))))
 
 same-length : tie.Need-same-length
 same-length c = search needs
@@ -23,7 +24,7 @@ slice-aggregate-put-two-2 c = search needs
 
 put-two-requires-2 : tie.Need-put-two-requires-2
 put-two-requires-2 c κs =
-    let i = c .before .before in rw (word-cn _ (i .if2 .taken)) at (i .before .before .before .pre .1)
+    let i = c .before .before in simp length-two (omega (arith, simp length-two at (rw (word-cn _ (i .if2 .taken)) at (i .before .before .before .pre .1))))
 
 same-length-2 : tie.Need-same-length-2
 same-length-2 c = search needs
@@ -39,7 +40,7 @@ put-two-requires-3 : tie.Need-put-two-requires-3
 put-two-requires-3 c κs =
     let i = c .before .before in
     let s = i .before .before .before in
-    rw (word-vp _ (s .pre .0) (i .before .if1 .left) (i .if2 .left)) at (s .pre .1)
+    simp length-two (omega (arith, simp length-two at (rw (word-vp _ (s .pre .0) (i .before .if1 .left) (i .if2 .left)) at (s .pre .1))))
 
 same-length-3 : tie.Need-same-length-3
 same-length-3 c = search needs

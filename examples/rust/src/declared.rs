@@ -1,0 +1,30 @@
+//! The C functions, as include/yilgorza.h declares them.
+
+extern "C" {
+    pub fn yilgorza_map(
+        text: *const u8,
+        text_len: usize,
+        list: *mut u16,
+        list_len: usize,
+        answer: *mut u8,
+        answer_len: usize,
+        outcome: *mut u64,
+    );
+    pub fn yilgorza_reduce(
+        text: *const u8,
+        text_len: usize,
+        list: *mut u16,
+        list_len: usize,
+        answer: *mut u8,
+        answer_len: usize,
+        outcome: *mut u64,
+    );
+    pub fn yilgorza_quote(
+        text: *const u8,
+        text_len: usize,
+        list: *mut u16,
+        list_len: usize,
+        outcome: *mut u64,
+    );
+    pub fn yilgorza_gate(record: u16, gate: *mut u8);
+}
