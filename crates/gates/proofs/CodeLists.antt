@@ -10,7 +10,7 @@ use Rattle.gates.specs.declared.Gate.{Gate}
 use Rattle.gates.specs.Circuit.{Valid, valid-not, valid-powered, AllValid}
 use Rattle.gates.specs.Order.{_≼_, none, less, same}
 use Rattle.gates.specs.Code.{code, gate, gates, Code, AllCodes}
-use Rattle.gates.proofs.Every.{every-append, every-left, every-right, every-take, every-drop, every-set, every-at, every-follows}
+use Rattle.gates.proofs.Every.{every-append, every-take, every-drop, every-at, every-follows}
 use Rattle.gates.proofs.Codes.{gate-code, code-code, code-injective, earlier-code}
 
 -- ---- the gates of a list, part by part
@@ -64,20 +64,11 @@ module _ (n : ℕ) where
   pub all-codes-append : (l m : List ℕ) → AllCodes n l → AllCodes n m → AllCodes n (l ++ m)
   all-codes-append = every-append (Code n)
 
-  pub all-codes-left : (l m : List ℕ) → AllCodes n (l ++ m) → AllCodes n l
-  all-codes-left = every-left (Code n)
-
-  pub all-codes-right : (l m : List ℕ) → AllCodes n (l ++ m) → AllCodes n m
-  all-codes-right = every-right (Code n)
-
   pub all-codes-take : (i : ℕ) (l : List ℕ) → AllCodes n l → AllCodes n (take i l)
   all-codes-take = every-take (Code n)
 
   pub all-codes-drop : (i : ℕ) (l : List ℕ) → AllCodes n l → AllCodes n (drop i l)
   all-codes-drop = every-drop (Code n)
-
-  pub all-codes-set : (l : List ℕ) (i k : ℕ) → AllCodes n l → Code n k → AllCodes n (set l i k)
-  all-codes-set = every-set (Code n)
 
   pub code-at : (l : List ℕ) (i d : ℕ) → i < length l → AllCodes n l → Code n (getD l i d)
   code-at = every-at (Code n)
@@ -92,15 +83,9 @@ pub valid-more : {n m : ℕ} {g : Gate} → n ≤ m → Valid n g → Valid m g
 valid-more h (valid-not {t} a) = valid-not {t = t} (omega arith)
 valid-more h (valid-powered {p} {c} {t} a b i j d) = valid-powered {c = c} {t = t} a b (omega arith) (omega arith) d
 
-pub code-more : {n m k : ℕ} → n ≤ m → Code n k → Code m k
-code-more h w = record { valid = valid-more h (w .valid); exact = w .exact }
-
 module _ (n m : ℕ) where
   pub all-valid-more : (c : List Gate) → n ≤ m → AllValid n c → AllValid m c
   all-valid-more c h = every-follows (Valid n) (Valid m) (λ g. valid-more h) c
-
-  pub all-codes-more : (l : List ℕ) → n ≤ m → AllCodes n l → AllCodes m l
-  all-codes-more l h = every-follows (Code n) (Code m) (λ k. code-more h) l
 
 -- ---- dictionary order
 

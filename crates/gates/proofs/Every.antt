@@ -2,7 +2,7 @@
 use mathlib.Core.List.{List, [], _∷_, _++_, map}
 use Prim.Native.Nat.{ℕ, zero, suc, _<_}
 use native.Mathlib.Omega.{arith}
-use lib.ListN.{length, take, drop, getD, set}
+use lib.ListN.{length, take, drop, getD}
 use Rattle.gates.specs.Every.{Every}
 
 module _ {A : Type 0} (P : A → Type 0) where
@@ -27,11 +27,6 @@ module _ {A : Type 0} (P : A → Type 0) where
   every-drop zero l h = h
   every-drop (suc i) [] h = tt
   every-drop (suc i) (x ∷ l) h = every-drop i l (h .1)
-
-  pub every-set : (l : List A) (i : ℕ) (x : A) → Every P l → P x → Every P (set l i x)
-  every-set [] i x h w = tt
-  every-set (y ∷ l) zero x h w = (w, h .1)
-  every-set (y ∷ l) (suc i) x h w = (h .0, every-set l i x (h .1) w)
 
   pub every-at : (l : List A) (i : ℕ) (d : A) → i < length l → Every P l → P (getD l i d)
   every-at [] i d b h = absurd (omega arith)

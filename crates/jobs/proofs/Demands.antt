@@ -83,7 +83,6 @@ unfolding refusal
 refusal-is r l e q = (ap (λ (y : Exit). y .number) q, ap (λ (y : Exit). y .line) q, ap (λ (y : Exit). y .count) q, ap (λ (y : Exit). y .list) q, ap (λ (y : Exit). y .area) q)
 
 pub ten : number-of ShortAnswer ≡ 10
-unfolding number-of
 ten = refl
 
 -- ---- the list that a job gives

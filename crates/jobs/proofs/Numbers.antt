@@ -61,15 +61,14 @@ rules-away least rs n j {r} {l} a later e = go (first rs) (λ s h. first-numbere
 
 -- rules 3 to 9
 malformed-numbered : {r : Refusal} {l m : ℕ} → turned-away Malformed m ≡ turned-away r l → Numbered 3 r
-unfolding number-of
 malformed-numbered e = subst (Numbered 3) (away-refusal e .0) (omega arith, omega arith)
 
 rules-numbered : (k : Kind) (g : Head) (before : ℕ) (c : List Gate) (f : Form) → AllNumbered 3 (rules k g before c f)
-unfolding rules number-of
+unfolding rules
 rules-numbered k g before c f = ((omega arith, omega arith), ((omega arith, omega arith), ((omega arith, omega arith), ((omega arith, omega arith), ((omega arith, omega arith), ((omega arith, omega arith), ((omega arith, omega arith), tt)))))))
 
 head-numbered : (n : ℕ) → AllNumbered 3 (head-rules n)
-unfolding head-rules number-of
+unfolding head-rules
 head-numbered n = ((omega arith, omega arith), tt)
 
 lines-away : (k : Kind) (g : Head) (before : ℕ) (c : List Gate) (ls : List Line) {r : Refusal} {l : ℕ} → judge-lines k g before c ls ≡ turned-away r l → Numbered 3 r
@@ -88,7 +87,7 @@ text-away k (in-form (lines n) ∷ ls) e = rules-away 3 (head-rules n) 1 _ (head
 
 -- rules 1 to 9
 size-numbered : (size records : ℕ) → AllNumbered 1 (size-rules size records)
-unfolding size-rules number-of
+unfolding size-rules
 size-numbered size records = ((omega arith, omega arith), ((omega arith, omega arith), tt))
 
 judged-away : (k : Kind) (e : Entry) {r : Refusal} {l : ℕ} → judged k e ≡ turned-away r l → Numbered 1 r

@@ -21,9 +21,6 @@ use Rattle.reduction.specs.Pushed.{PushedAll}
 use Rattle.reduction.proofs.Places.{rest-bounds}
 use Rattle.loading.specs.Loaded.{Addable, Added}
 
-pub fits : {h : Head} {t : ℕ} {cs l : List ℕ} {n : ℕ} → Addable h t cs l n → n + length (expansion (h .lines) cs t) ≤ length l
-fits w = omega (arith, w .room, w .few)
-
 module _ {h : Head} {t : ℕ} {cs l m : List ℕ} {n j : ℕ} (w : Addable h t cs l n) (x : Written (expansion (h .lines) cs t) l n m j) where
   abbrev made : List Gate
   made = expansion (h .lines) cs t
@@ -31,7 +28,7 @@ module _ {h : Head} {t : ℕ} {cs l m : List ℕ} {n j : ℕ} (w : Addable h t c
   inside : n ≤ length l
   inside = omega (arith, w .room, w .few)
 
-  pub behind : n ≤ j
+  behind : n ≤ j
   behind = omega (arith, x .count)
 
   pub room : length m ≡ length l → 4162 ≤ length m

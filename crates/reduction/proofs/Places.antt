@@ -6,7 +6,7 @@ use native.Mathlib.Omega.{arith}
 use lib.ListN.{length, take, drop, length-drop}
 use lib.Seq.{take-take, take-add, take-at, take-append-le, drop-at, drop-drop, drop-append-le, length-take-le}
 use Rattle.reduction.specs.Bounds.{bounds-of}
-use Rattle.reduction.specs.Pushed.{Apart}
+use Rattle.reduction.specs.Pushed.{Unchanged}
 
 -- the elements from a on, of the first a + m
 pub drop-take : (L : List ℕ) (a m : ℕ) → a ≤ length L → drop a (take (a + m) L) ≡ take m (drop a L)
@@ -21,8 +21,8 @@ drop-later x y a b h e =
 -- ---- lists with the same rest
 
 module _ (L M : List ℕ) (k : ℕ) (few : k ≤ 4096) (room : 4162 ≤ length L) (same : length M ≡ length L) (e : drop k M ≡ drop k L) where
-  pub rest-apart : Apart k L M
-  rest-apart =
+  pub rest-unchanged : Unchanged k L M
+  rest-unchanged =
       let z : k + (4096 - k) ≡ 4096 = omega arith in
       record {
         places = rw z at (drop-take M k (4096 - k) (omega arith) ∙ ap (λ (x : List ℕ). take (4096 - k) x) e ∙ sym (drop-take L k (4096 - k) (omega arith)));
@@ -61,15 +61,15 @@ module _ (l : List ℕ) (room : 4162 ≤ length l) where
         ∙ drop-at b (drop 66 (drop 4096 l)) 66 s
         ∙ drop-drop 66 4096 l
 
-    pub lent-apart : length b ≡ 66 → {k : ℕ} {L : List ℕ} → Apart k L l → Apart k L (with-bounds l b)
-    lent-apart s {k} a = record { places = ap (λ (x : List ℕ). drop k x) (lent-front 4096 (omega arith)) ∙ a .places; after = lent-after s ∙ a .after }
+    pub lent-unchanged : length b ≡ 66 → {k : ℕ} {L : List ℕ} → Unchanged k L l → Unchanged k L (with-bounds l b)
+    lent-unchanged s {k} a = record { places = ap (λ (x : List ℕ). drop k x) (lent-front 4096 (omega arith)) ∙ a .places; after = lent-after s ∙ a .after }
 
     pub lent-rest : (k : ℕ) → k ≤ 4096 → drop k (with-bounds l b) ≡ drop k (take 4096 l) ++ (b ++ drop 4162 l)
     lent-rest k h = drop-append-le k (take 4096 l) (b ++ drop 66 (drop 4096 l)) (omega (arith, front-size)) ∙ ap (λ (x : List ℕ). drop k (take 4096 l) ++ (b ++ x)) (drop-drop 66 4096 l)
 
--- what is apart from one is apart from the next
-pub apart-later : {j k : ℕ} {L l M : List ℕ} → j ≤ k → Apart j l M → Apart k L l → Apart k L M
-apart-later {j} {k} {L} {l} {M} h a b = record { places = drop-later (take 4096 M) (take 4096 l) j k h (a .places) ∙ b .places; after = a .after ∙ b .after }
+-- what is unchanged twice is unchanged
+pub unchanged-later : {j k : ℕ} {L l M : List ℕ} → j ≤ k → Unchanged j l M → Unchanged k L l → Unchanged k L M
+unchanged-later {j} {k} {L} {l} {M} h a b = record { places = drop-later (take 4096 M) (take 4096 l) j k h (a .places) ∙ b .places; after = a .after ∙ b .after }
 
-pub apart-more : {j k : ℕ} {L l : List ℕ} → j ≤ k → Apart j L l → Apart k L l
-apart-more {j} {k} {L} {l} h a = record { places = drop-later (take 4096 l) (take 4096 L) j k h (a .places); after = a .after }
+pub unchanged-more : {j k : ℕ} {L l : List ℕ} → j ≤ k → Unchanged j L l → Unchanged k L l
+unchanged-more {j} {k} {L} {l} h a = record { places = drop-later (take 4096 l) (take 4096 L) j k h (a .places); after = a .after }

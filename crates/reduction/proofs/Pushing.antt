@@ -8,10 +8,10 @@ use lib.Seq.{paste}
 use Rattle.gates.specs.Code.{gates}
 use Rattle.reduction.specs.Partner.{Meets, Enters}
 use Rattle.reduction.specs.Bounds.{Bounds, bounds-of, Moved, Each, Noted}
-use Rattle.reduction.specs.Pushed.{Apart, Pushable, Pushed}
+use Rattle.reduction.specs.Pushed.{Unchanged, Pushable, Pushed}
 use Rattle.reduction.proofs.Numbers.{total, joined}
 use Rattle.reduction.proofs.Search.{place-inside}
-use Rattle.reduction.proofs.Places.{rest-apart, rest-bounds, with-bounds, bounds-size, lent-front, lent-bounds, lent-apart}
+use Rattle.reduction.proofs.Places.{rest-unchanged, rest-bounds, with-bounds, bounds-size, lent-front, lent-bounds, lent-unchanged}
 use Rattle.reduction.proofs.Bounding.{bounds-entered, bounds-gone, bounds-merged}
 use Rattle.reduction.proofs.Outcome.{Stacked, outcome-gone, outcome-merged, outcome-entered}
 
@@ -21,11 +21,11 @@ module _ (L : List ℕ) (n g : ℕ) (w : Pushable L n g) where
     stood : bounds-of M ≡ bounds-of L
     stood = rest-bounds L M (n + 1) (omega (arith, w .few)) (w .room) same (p .rest)
 
-    apart : Apart (n + 1) L M
-    apart = rest-apart L M (n + 1) (omega (arith, w .few)) (w .room) same (p .rest)
+    unchanged : Unchanged (n + 1) L M
+    unchanged = rest-unchanged L M (n + 1) (omega (arith, w .few)) (w .room) same (p .rest)
 
     kept : Bounds (take r M) (bounds-of L) → Pushed L n g r M
-    kept b = record { pushed = p .pushed; within = p .within; codes = p .codes; normal = p .normal; bounded = rw stood b; rest = apart }
+    kept b = record { pushed = p .pushed; within = p .within; codes = p .codes; normal = p .normal; bounded = rw stood b; rest = unchanged }
 
     lent : (b : List ℕ) → length b ≡ length (bounds-of M) → Bounds (take r M) b → Pushed L n g r (with-bounds M b)
     lent b e h =
@@ -38,7 +38,7 @@ module _ (L : List ℕ) (n g : ℕ) (w : Pushable L n g) where
           codes = rw f (p .codes);
           normal = rw f (p .normal);
           bounded = rw (f, lent-bounds M room b s) h;
-          rest = lent-apart M room b s apart;
+          rest = lent-unchanged M room b s unchanged;
         }
 
   module _ (i : ℕ) (m : Meets (take n L) g i) (h : i < n) where

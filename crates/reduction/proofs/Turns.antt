@@ -13,8 +13,8 @@ use Rattle.gates.proofs.Normal.{Normal}
 use Rattle.gates.proofs.Same.{pushes}
 use Rattle.gates.proofs.Theorem.{nf, pushes-append, nf-reduced}
 use Rattle.reduction.specs.Bounds.{Bounded}
-use Rattle.reduction.specs.Pushed.{Apart, Pushable, Pushed, PushedAll, ReducedTo}
-use Rattle.reduction.proofs.Places.{with-bounds, lent-front, lent-apart, lent-rest, apart-later, apart-more}
+use Rattle.reduction.specs.Pushed.{Unchanged, Pushable, Pushed, PushedAll, ReducedTo}
+use Rattle.reduction.proofs.Places.{with-bounds, lent-front, lent-unchanged, lent-rest, unchanged-later, unchanged-more}
 
 module _ (L : List ℕ) (n m : ℕ) (h : n ≤ m) (top : m ≤ 4096) (k : 4162 ≤ length L) (cs : AllCodes 32 (take m L)) where
   pub turns-start : Normal (gates (take n L)) → Bounded L n → PushedAll L n n n L
@@ -74,7 +74,7 @@ module _ (L : List ℕ) (n m : ℕ) (h : n ≤ m) (top : m ≤ 4096) (k : 4162 �
           codes = w .codes;
           normal = w .normal;
           bounded = w .bounded;
-          rest = apart-later (omega arith) (w .rest) (apart-more (omega arith) (p .rest));
+          rest = unchanged-later (omega arith) (w .rest) (unchanged-more (omega arith) (p .rest));
         }
 
 -- ---- the bounds set to 0, the gates pushed onto none, and the bounds set to 0 again
@@ -90,7 +90,7 @@ module _ (L : List ℕ) (m : ℕ) (few : m ≤ 4096) (h : 4162 ≤ length L) (b 
       let f : take r (with-bounds M b′) ≡ take r M = lent-front M k b′ r (omega (arith, p .within)) in
       let q : gates (take r M) ≡ nf (gates (take m L)) =
       p .pushed ∙ ap (λ (j : ℕ). pushes [] (gates (take j (with-bounds L b)))) z ∙ ap (λ (x : List ℕ). pushes [] (gates x)) (lent-front L h b m few) in
-      let a : Apart m L M = apart-later (omega arith) (p .rest) (lent-apart L h b (ap length e) (record { places = refl; after = refl })) in
+      let a : Unchanged m L M = unchanged-later (omega arith) (p .rest) (lent-unchanged L h b (ap length e) (record { places = refl; after = refl })) in
       record {
         reduced = λ n v. rw (f, q) (nf-reduced n (gates (take m L)) v);
         within = p .within;

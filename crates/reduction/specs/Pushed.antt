@@ -13,7 +13,7 @@ use Rattle.gates.proofs.Same.{pushes}
 use Rattle.reduction.specs.Bounds.{Bounded}
 
 -- the places for gates from k on, and those after the bounds, are as they were
-pub record Apart (k : ℕ) (entry exit : List ℕ) : Type 0 where
+pub record Unchanged (k : ℕ) (entry exit : List ℕ) : Type 0 where
   pub places : drop k (take 4096 exit) ≡ drop k (take 4096 entry)
   pub after : drop 4162 exit ≡ drop 4162 entry
 
@@ -33,7 +33,7 @@ pub record Pushed (entry : List ℕ) (n g r : ℕ) (exit : List ℕ) : Type 0 wh
   pub codes : AllCodes 32 (take r exit)
   pub normal : Normal (gates (take r exit))
   pub bounded : Bounded exit r
-  pub rest : Apart (n + 1) entry exit
+  pub rest : Unchanged (n + 1) entry exit
 
 -- the gates from n up to m pushed, in turn, onto the first n
 pub record PushedAll (entry : List ℕ) (n m r : ℕ) (exit : List ℕ) : Type 0 where
@@ -42,7 +42,7 @@ pub record PushedAll (entry : List ℕ) (n m r : ℕ) (exit : List ℕ) : Type 0
   pub codes : AllCodes 32 (take r exit)
   pub normal : Normal (gates (take r exit))
   pub bounded : Bounded exit r
-  pub rest : Apart m entry exit
+  pub rest : Unchanged m entry exit
 
 -- the first m reduced: on whatever number of lines they are a circuit, the first r are then its reduced list; the places from m on are as they
 -- were, but that the bounds are 0

@@ -75,5 +75,5 @@ edges =
     ∷ []
 
 edges-hold : all-hold edges ≡ true
-unfolding times is-away is-passed holds all-hold number-of has inverse inverted spare _⨾_ joined expand expansion strip second num tail pair R.control R.controls list many lines-body not-body mct-body powered-body parse whole read longer cut J.controls J.target J.gates belongs most any-from rising first head-rules rules or-else judge-lines judge-text read-all judge
+unfolding times is-away is-passed holds all-hold has inverse inverted spare _⨾_ joined expand expansion strip second num tail pair R.control R.controls list many lines-body not-body mct-body powered-body parse whole read longer cut J.controls J.target J.gates belongs most any-from rising first head-rules rules or-else judge-lines judge-text read-all judge
 edges-hold = refl

@@ -47,6 +47,11 @@ strip-sound (a ∷ w) (b ∷ s) r e = go (strip-sound w s r) (eqb b a) refl e
 digit-yes : (a : ℕ) → 48 ≤ a → a ≤ 57 → digit a ≡ true
 digit-yes a h k = rw (le-leb 48 a h, le-leb a 57 k)
 
+-- a 0 stands alone: of `03` it is the number, and 3 is left
+zero-alone : num (bytes "03") ≡ got 0 (bytes "3")
+unfolding num
+zero-alone = refl
+
 num-digits : (n b : ℕ) (s : List ℕ) → n < 100 → digit b ≡ false → num (digits n ++ b ∷ s) ≡ got n (b ∷ s)
 unfolding num digits second
 num-digits n b s h d = go (ltb n 10) refl (eqb n 0) refl

@@ -3,7 +3,7 @@ use Prim.Native.Nat.{ℕ}
 use Rattle.text.specs.declared.Refusal.{Refusal}
 use Rattle.text.specs.declared.Refusal.the-variants.{Overlong, ShortList, Malformed, NoSuchLine, Crossed, Unsorted, TooWide, NoSpare, TooMany, ShortAnswer}
 
-unfoldable pub number-of : Refusal → ℕ
+abbrev pub number-of : Refusal → ℕ
 number-of Overlong = 1
 number-of ShortList = 2
 number-of Malformed = 3

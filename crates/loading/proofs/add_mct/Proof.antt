@@ -1,9 +1,10 @@
 -- `loading::add_mct` meets its contract. Assumes nothing.
 use borrow.Author.Needs.{needs}
 use mathlib.Core.Path.{sym}
+use native.Mathlib.Omega.{arith}
 use lib.Seq.{length-take-le}
 use Rattle.loading.specs.Loaded.{controls-of}
-use Rattle.loading.proofs.Adding.{behind, fits, room, few, expanded-codes, still-normal, still-bounded, added}
+use Rattle.loading.proofs.Adding.{room, few, expanded-codes, still-normal, still-bounded, added}
 use Rattle.loading.proofs.add_mct.Statement.{statement}
 use Rattle.loading.proofs.add_mct.Tie as tie
 
@@ -15,7 +16,7 @@ slice-aggregate-expand c = let b = c .before .before .before in sym (length-take
 
 expand-requires : tie.Need-expand-requires
 unfolding controls-of
-expand-requires c κs = let w = c .before .before .before .before .pre .1 in (w .narrow, (w .expandable, (w .below, fits w)))
+expand-requires c κs = let w = c .before .before .before .before .pre .1 in (w .narrow, (w .expandable, (w .below, omega (arith, w .room, w .few))))
 
 push-all-requires : tie.Need-push-all-requires
 unfolding controls-of
@@ -24,7 +25,7 @@ push-all-requires c κs =
     let e = c .before .before .before .expand in
     let x = e .ensures in
     let same = e .kept .1 .1 .1 .0 in
-    ((behind w x, few w x, room w x same), (expanded-codes w x, (still-normal w x, still-bounded w x same)))
+    ((omega (arith, x .count), few w x, room w x same), (expanded-codes w x, (still-normal w x, still-bounded w x same)))
 
 same-length : tie.Need-same-length
 same-length c = search needs
