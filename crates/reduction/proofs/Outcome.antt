@@ -5,7 +5,7 @@ use mathlib.Core.List.{List, [], _∷_, _++_}
 use Prim.Native.Nat.{ℕ, suc, _+_, _-_, _≤_, _<_}
 use native.Mathlib.Omega.{arith}
 use lib.ListN.{length, take, drop, getD, set, length-drop}
-use lib.Seq.{paste, take-paste, drop-paste, take-take, drop-drop, take-set-lt, set-split, drop-set-lt, length-take-le}
+use lib.Seq.{paste, take-paste, drop-paste, take-take, take-set-lt, set-split, drop-set-lt, length-take-le}
 use Rattle.gates.specs.declared.Gate.{Gate}
 use Rattle.gates.specs.Code.{gate, gates, Code, AllCodes}
 use Rattle.gates.proofs.CodeLists.{gates-append, all-codes-append, all-codes-take, all-codes-drop, code-at}
@@ -19,20 +19,20 @@ use Rattle.reduction.proofs.Numbers.{total, joined, merged-none, merged
 use Rattle.reduction.proofs.Search.{front-at, push-at}
 use Rattle.reduction.proofs.Places.{drop-take}
 
--- no place after n has changed
+-- no place from r on has changed
 pub record Stacked (entry : List ℕ) (n g r : ℕ) (exit : List ℕ) : Type 0 where
   pub pushed : gates (take r exit) ≡ push (gates (take n entry)) (gate g)
   pub within : r ≤ n + 1
   pub codes : AllCodes 32 (take r exit)
   pub normal : Normal (gates (take r exit))
-  pub rest : drop (n + 1) exit ≡ drop (n + 1) entry
+  pub rest : drop r exit ≡ drop r entry
 
 -- ---- the three outcomes
 
 module _ (L : List ℕ) (n g : ℕ) (w : Pushable L n g) where
   -- the list is made of three parts, and so is what the push gives
   made : (M : List ℕ) (r : ℕ) (u x v : List ℕ) → take r M ≡ u ++ (x ++ v) → push (gates (take n L)) (gate g) ≡ gates u ++ (gates x ++ gates v)
-      → AllCodes 32 u → AllCodes 32 x → AllCodes 32 v → r ≤ n + 1 → drop (n + 1) M ≡ drop (n + 1) L → Stacked L n g r M
+      → AllCodes 32 u → AllCodes 32 x → AllCodes 32 v → r ≤ n + 1 → drop r M ≡ drop r L → Stacked L n g r M
   made M r u x v e p a b c k d =
       let q : gates (take r M) ≡ push (gates (take n L)) (gate g) =
       ap (λ (y : List ℕ). gates y) e ∙ gates-append u (x ++ v) ∙ ap (λ (y : List Gate). gates u ++ y) (gates-append x v) ∙ sym p in
@@ -73,7 +73,6 @@ module _ (L : List ℕ) (n g : ℕ) (w : Pushable L n g) where
         let i1 : i + 1 ≡ suc i = omega arith in
         let n0 : n ≡ i + 1 + k = omega arith in
         let n1 : n - 1 ≡ i + k = omega arith in
-        let n2 : n + 1 ≡ i + k + 2 = omega arith in
         let v : drop (suc i) (take n L) ≡ take k S = ap (λ (j : ℕ). drop j (take n L)) (sym i1) ∙ ap (λ (j : ℕ). drop (i + 1) (take j L)) n0 ∙ drop-take L (i + 1) k (omega arith) in
         let t : take (i + k) M ≡ take i L ++ take k S = ap (λ (y : List ℕ). take (i + k) y) q ∙ take-paste L i S k (omega arith) (omega arith) in
         let d : drop (i + k) M ≡ drop (i + k) L = ap (λ (y : List ℕ). drop (i + k) y) q ∙ drop-paste L i S k (omega arith) (omega arith) in
@@ -81,7 +80,7 @@ module _ (L : List ℕ) (n g : ℕ) (w : Pushable L n g) where
         (ap (λ (j : ℕ). take j M) n1 ∙ t ∙ rw (take-take i n L (omega arith), v))
         (pushed-at ∙ ap (λ (y : List Gate). gates (take i (take n L)) ++ (y ++ gates (drop (suc i) (take n L)))) (merged-none other g code-other (w .code) (m .site) (rw same z)))
         (all-codes-take 32 i (take n L) (w .codes)) tt (all-codes-drop 32 (suc i) (take n L) (w .codes)) (omega arith)
-        (rw n2 (sym (drop-drop 2 (i + k) M) ∙ ap (λ (y : List ℕ). drop 2 y) d ∙ drop-drop 2 (i + k) L))
+        (rw n1 d)
 
     pub outcome-merged : (total (getD L i 0) g ≡ 0 → ⊥) → Stacked L n g n (set L i (joined (getD L i 0) g))
     unfolding other
@@ -94,7 +93,7 @@ module _ (L : List ℕ) (n g : ℕ) (w : Pushable L n g) where
         (take-set-lt n L i x inner ∙ set-split (take n L) i x (m .inside))
         (pushed-at ∙ ap (λ (y : List Gate). gates (take i (take n L)) ++ (y ++ gates (drop (suc i) (take n L)))) (merged-one other g code-other (w .code) (m .site) za ∙ ap (λ (k : ℕ). gate k ∷ []) e))
         (all-codes-take 32 i (take n L) (w .codes)) (rw e at (code-joined other g code-other (w .code) (m .site) za), tt) (all-codes-drop 32 (suc i) (take n L) (w .codes)) (omega arith)
-        (drop-set-lt (n + 1) L i x (omega arith))
+        (drop-set-lt n L i x (omega arith))
 
   pub outcome-entered : (M : List ℕ) (i : ℕ) → Enters (take n L) g i → M ≡ paste L i (g ∷ drop i L) (n - i + 1) → Stacked L n g (n + 1) M
   outcome-entered M i p q =

@@ -17,12 +17,12 @@ use Rattle.reduction.proofs.Outcome.{Stacked, outcome-gone, outcome-mer
 
 module _ (L : List ℕ) (n g : ℕ) (w : Pushable L n g) where
   module _ (M : List ℕ) (r : ℕ) (same : length M ≡ length L) (p : Stacked L n g r M) where
-    -- no place after n has changed, so that the bounds are those at entry
+    -- no place from r on has changed, so that the bounds are those at entry
     stood : bounds-of M ≡ bounds-of L
-    stood = rest-bounds L M (n + 1) (omega (arith, w .few)) (w .room) same (p .rest)
+    stood = rest-bounds L M r (omega (arith, w .few, p .within)) (w .room) same (p .rest)
 
-    unchanged : Unchanged (n + 1) L M
-    unchanged = rest-unchanged L M (n + 1) (omega (arith, w .few)) (w .room) same (p .rest)
+    unchanged : Unchanged r L M
+    unchanged = rest-unchanged L M r (omega (arith, w .few, p .within)) (w .room) same (p .rest)
 
     kept : Bounds (take r M) (bounds-of L) → Pushed L n g r M
     kept b = record { pushed = p .pushed; within = p .within; codes = p .codes; normal = p .normal; bounded = rw stood b; rest = unchanged }

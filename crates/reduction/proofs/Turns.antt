@@ -74,7 +74,7 @@ module _ (L : List ℕ) (n m : ℕ) (h : n ≤ m) (top : m ≤ 4096) (k : 4162 �
           codes = w .codes;
           normal = w .normal;
           bounded = w .bounded;
-          rest = unchanged-later (omega arith) (w .rest) (unchanged-more (omega arith) (p .rest));
+          rest = unchanged-later (omega (arith, w .within)) (w .rest) (unchanged-more (omega arith) (p .rest));
         }
 
 -- ---- the bounds set to 0, the gates pushed onto none, and the bounds set to 0 again

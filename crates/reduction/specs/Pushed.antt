@@ -26,14 +26,14 @@ pub record Pushable (list : List ℕ) (n g : ℕ) : Type 0 where
   pub bounded : Bounded list n
   pub code : Code 32 g
 
--- one gate g pushed onto the first n: the first r elements are then the list, with bounds, and no place after n has changed
+-- one gate g pushed onto the first n: the first r elements are then the list, with bounds, and no place from r on has changed
 pub record Pushed (entry : List ℕ) (n g r : ℕ) (exit : List ℕ) : Type 0 where
   pub pushed : gates (take r exit) ≡ push (gates (take n entry)) (gate g)
   pub within : r ≤ n + 1
   pub codes : AllCodes 32 (take r exit)
   pub normal : Normal (gates (take r exit))
   pub bounded : Bounded exit r
-  pub rest : Unchanged (n + 1) entry exit
+  pub rest : Unchanged r entry exit
 
 -- the gates from n up to m pushed, in turn, onto the first n
 pub record PushedAll (entry : List ℕ) (n m r : ℕ) (exit : List ℕ) : Type 0 where
