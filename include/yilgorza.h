@@ -2,13 +2,26 @@
    NCV gates, reduces such a list, and quotes its gate count.
 
    The functions are in the archive target/staticlib/libcapi.a, which
-   `rt staticlib capi` proves and writes, for x86-64. It needs nothing else but
-   memcpy and memset. Each function is proved to keep what is said of it here, on
-   every input (crates/capi/specs/Exported.antt has the contracts).
+   `rt staticlib capi` proves and writes. `bin/shared-object ARCHIVE OUT` makes a
+   shared object of it, and `./install` installs both, as libyilgorza.a and
+   libyilgorza.so. The code is for x86-64, with the calling convention of System V.
 
-   Nothing is kept between calls, and nothing is allocated: all memory is lent by
-   the caller, and a call takes less than 64 KiB of stack. Calls may run at the
-   same time on areas of their own. */
+   Proved, for every call that keeps what is asked of its pointers and lengths,
+   none of them null: it ends, and what is said below of outcome, list, answer area and gate holds,
+   whatever the bytes of the text (crates/capi/specs/Exported.antt has the
+   contracts).
+
+   Measured of the archive, by tests/interface/run, and not proved:
+
+   - it is position independent: it links into programs at any address and at
+     fixed ones, and into shared objects;
+   - it needs nothing else but memcpy, memmove and memset, and does not enter the
+     kernel: so nothing is allocated, and all memory is lent by the caller;
+   - it has no data that can be written: so nothing is kept between calls;
+   - calls may run at the same time, with lists, answer areas and outcomes of
+     their own; they may share one text;
+   - a call takes less than 64 KiB of stack;
+   - a pointer may be null if its length is 0. */
 
 #ifndef YILGORZA_H
 #define YILGORZA_H
@@ -36,16 +49,20 @@ enum {
                             the gates counted by quote; else 0 */
 };
 
-/* The ten numbers of a refusal. Number 1 is tried first, then 2. Then the lines of
+/* The ten numbers of a refusal. n is the number of line 1, `(lines n)`, and k the
+   number of controls of an mct; docs/USING.md of the repository has the forms of
+   the texts. Number 1 is tried first, then 2. Then the lines of
    the text are taken in order, and each is tried against 3 to 9 in that order; the
    first line that fails is returned. Then comes 10. */
 enum {
     YILGORZA_SUCCESS = 0,
     YILGORZA_OVERLONG = 1,     /* the text has more than 60,000 bytes */
     YILGORZA_SHORT_LIST = 2,   /* the list has fewer than 4,096 records */
-    YILGORZA_MALFORMED = 3,    /* a line is not in form, or the text is empty */
-    YILGORZA_NO_SUCH_LINE = 4, /* a number is n or more; in line 1, n is not in 1
-                                  to 32 */
+    YILGORZA_MALFORMED = 3,    /* a line of the text is not in form, or the text is
+                                  empty */
+    YILGORZA_NO_SUCH_LINE = 4, /* a number is n or more: the circuit has no such
+                                  line; in line 1 of the text, n is not in 1 to
+                                  32 */
     YILGORZA_CROSSED = 5,      /* a control equals the target */
     YILGORZA_UNSORTED = 6,     /* the controls do not strictly rise */
     YILGORZA_TOO_WIDE = 7,     /* more than 15 controls */
@@ -67,9 +84,12 @@ enum {
 
 /* The three jobs. Each takes a text of text_len bytes, a list of list_len records
    and an outcome of three numbers, and map and reduce an answer area of
-   answer_len bytes. No pointer is null, each has its type's alignment, and none of
-   the areas that are written overlaps another area. Any bytes and any lengths may
-   be passed.
+   answer_len bytes.
+
+   Asked of a call: the lengths are the true lengths of the areas. Each pointer has
+   its type's alignment, and is not null; with a length of 0 it may be. None of
+   the areas that are written overlaps another area. The text is only read. It may
+   hold any bytes, and the areas may have any lengths.
 
    On success the list holds first the reduced list, gate by gate, and `not 0` in
    every later record; the answer area holds that list as a circuit text at its
@@ -77,7 +97,8 @@ enum {
    answer text has lines, without line 1, and those of quote as many as it counts.
 
    A refusal leaves the answer area unchanged. Numbers 1 and 2 leave the list
-   unchanged, the others leave `not 0` in every record. */
+   unchanged, the others leave `not 0` in every record. So on success and with the
+   numbers 3 to 10 all list_len records are written, those past 4,096 too. */
 
 /* Maps a cascade text to a circuit text. */
 void yilgorza_map(const uint8_t *text, size_t text_len, uint16_t *list,
@@ -93,9 +114,9 @@ void yilgorza_reduce(const uint8_t *text, size_t text_len, uint16_t *list,
 void yilgorza_quote(const uint8_t *text, size_t text_len, uint16_t *list,
                     size_t list_len, uint64_t *outcome);
 
-/* Reads a record into an area of three bytes: kind, control and target. A NOT has
-   control 0. The kind is 0, with control and target 0, for a number of 4,224 or
-   more: no gate on 32 lines has it. */
+/* Reads a record into an area of three bytes: kind, control and target. The pointer
+   is not null. A NOT has control 0. The kind is 0, with control and target 0, for
+   every number that no gate on 32 lines has. */
 void yilgorza_gate(uint16_t record, uint8_t *gate);
 
 /* The places of a gate that was read, and the kinds. */

@@ -2,3 +2,4 @@
 pub mod Stored
 pub mod Written
 pub mod Told
+pub mod Numbers

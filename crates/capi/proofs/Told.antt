@@ -44,7 +44,7 @@ gates-stored ks count limit l =
     ∙ ap (λ (f : List Gate). f ++ gates (drop limit l)) (gates-append (take count ks) (replicate (limit - count) not-0) ∙ ap (λ (f : List Gate). gates (take count ks) ++ f) (gates-not-0 (limit - count)))
     ∙ ap (λ (f : List Gate). (gates (take count ks) ++ replicate (limit - count) (Not 0)) ++ f) (gates-drop limit l)
 
-module _ (j : Job) (s l a : List ℕ) (d : Done) (a′ : List ℕ) (all : length (d .codes) ≡ 4162) (w : Hands j s (length l) a d a′) where
+module _ (j : Job) (s l a : List ℕ) (d : Done) (a′ : List ℕ) (all : length (d .codes) ≡ 4096) (w : Hands j s (length l) a d a′) where
   abbrev l′ : List ℕ
   l′ = stored (d .codes) (d .gates) (d .limit) l
 
@@ -81,7 +81,7 @@ module _ (j : Job) (s l a : List ℕ) (d : Done) (a′ : List ℕ) (all : length
   }
 
 -- what a job hands over, written into the list and the outcome
-pub told : {j : Job} {s l a : List ℕ} {d : Done} {o l′ a′ : List ℕ} → length (d .codes) ≡ 4162 → Hands j s (length l) a d a′
+pub told : {j : Job} {s l a : List ℕ} {d : Done} {o l′ a′ : List ℕ} → length (d .codes) ≡ 4096 → Hands j s (length l) a d a′
     → (l′ ≡ stored (d .codes) (d .gates) (d .limit) l) × (o ≡ three (d .outcome .number) (d .outcome .line) (d .outcome .count)) → Tells j s l a o l′ a′
 told {j} {s} {l} {a} {d} {a′ = a′} all w over = rw (over .0, over .1) (tells-stored j s l a d a′ all w)
 

@@ -2,23 +2,22 @@
 -- length. Assumes nothing.
 use mathlib.Core.Path.{_≡_, refl, sym, ap, _∙_}
 use mathlib.Core.List.{List, [], _∷_, _++_}
-use Prim.Native.Nat.{ℕ, zero, suc, _≤_}
+use Prim.Native.Nat.{ℕ, zero, suc, _-_, _≤_}
 use native.Mathlib.Nat.{not-suc-le-zero, le-of-suc-le-suc}
 use native.Mathlib.Omega.{arith}
-use lib.ListN.{length, drop, replicate, length-replicate}
+use lib.ListN.{length, drop, replicate, length-replicate, take-append-drop}
 use Rattle.gates.specs.declared.Gate.{Gate}
 use Rattle.gates.specs.declared.Gate.the-variants.{Not}
-use Rattle.gates.specs.Reduced.{Reduced}
 use Rattle.records.specs.declared.Done.{Done}
 use Rattle.records.specs.Records.{front, finished}
 use Rattle.records.proofs.Lists.{length-front}
 use Rattle.text.specs.declared.Head.{Head}
-use Rattle.text.specs.Judging.{accepted}
-use Rattle.jobs.specs.Jobs.{Job, takes, Entry, Exit, filled, judged, Says}
-use Rattle.jobs.specs.Demands.{TooLong, Demand1}
+use Rattle.text.specs.Judging.{accepted, judge}
+use Rattle.jobs.specs.Jobs.{Job, takes, Entry, Exit, Says}
+use Rattle.jobs.specs.Demands.{Yields, SuccessLeaves, Demand1}
 use Rattle.jobs.specs.Handing.{exit-of, Hands}
 use Rattle.jobs.proofs.One.{accepted-one}
-use Rattle.jobs.proofs.Numbers.{Came, refused, long, succeeded, came, demand-1}
+use Rattle.jobs.proofs.Numbers.{demand-1}
 
 -- ---- by two lists that differ in every record, how many records a front writes
 
@@ -43,32 +42,21 @@ whole (g ∷ f) (suc k) (suc room) h w p = ap suc (whole f k room (cc) (le-of-su
 
 -- ---- what a job says on success: the list depends on nothing but the length of the list lent
 
-record Success (j : Job) (e : Entry) (x : Exit) : Type 0 where
-  head : Head
-  circuit : List Gate
-  reduced : List Gate
-  accepts : judged (takes j) e ≡ accepted head circuit
-  is-reduced : Reduced (head .lines) circuit reduced
-  list : x .list ≡ filled reduced (e .list)
+abbrev Success : Job → Entry → Exit → Type 0
+Success j e x = (h : Head) × (r : List Gate) × Yields j e h r × SuccessLeaves j e x h r
 
-success : (j : Job) (e : Entry) (x : Exit) → Says j e x → x .number ≡ 0 → Success j e x
-success j e x s z = go (came j e x s)
-  where
-    go : Came j e x → Success j e x
-    go (refused r l q k) = absurd (omega (arith, demand-1 j e x s .refused r l q .2, z))
-    go (long h c r w q d f k) = absurd (omega (arith, demand-1 j e x s .short .1 (unfold TooLong in (w, (h, c, r, q, d, f))), z))
-    go (succeeded h c r n a q d w i k) = record { head = h; circuit = c; reduced = r; accepts = q; is-reduced = d; list = ap (λ (y : Exit). y .list) k }
+listed : (j : Job) (e : Entry) (x : Exit) {h : Head} {r : List Gate} → SuccessLeaves j e x h r → x .list ≡ r ++ replicate (length (e .list) - length r) (Not 0)
+listed j e x {r = r} p = sym (take-append-drop (length r) (x .list)) ∙ rw (p .list-first, p .list-later)
 
 -- entries with the same text, whose lists have the same length
 success-same : (j : Job) {d e : Entry} {x y : Exit} → d .text ≡ e .text → length (d .list) ≡ length (e .list) → Success j d x → Success j e y → x .list ≡ y .list
-unfolding filled judged
-success-same j {d} {e} s k p q =
-    let v : accepted (p .head) (p .circuit) ≡ accepted (q .head) (q .circuit) = sym (p .accepts) ∙ rw (s, k) (q .accepts) in
-    p .list ∙ rw (accepted-one v (p .is-reduced) (q .is-reduced), k) (sym (q .list))
+success-same j {d} {e} {x} {y} s k (h, r, v, p) (g, t, w, q) =
+    let a : accepted h (v .circuit) ≡ accepted g (w .circuit) = sym (v .passed) ∙ ap (judge (takes j)) s ∙ w .passed in
+    listed j d x p ∙ rw (accepted-one a (v .reduced) (w .reduced), k) (sym (listed j e y q))
 
 -- ---- the limit
 
-module _ (j : Job) (s a : List ℕ) (room : ℕ) (d : Done) (a′ : List ℕ) (all : length (d .codes) ≡ 4162) (w : Hands j s room a d a′) where
+module _ (j : Job) (s a : List ℕ) (room : ℕ) (d : Done) (a′ : List ℕ) (all : length (d .codes) ≡ 4096) (w : Hands j s room a d a′) where
   -- a list of the gate `not t`, as it is lent and as it is left
   abbrev entry : ℕ → Entry
   entry t = record { text = s; list = replicate room (Not t); area = a }
@@ -87,7 +75,7 @@ module _ (j : Job) (s a : List ℕ) (room : ℕ) (d : Done) (a′ : List ℕ) (a
 
   -- "Numbers 1 and 2 leave the gate list unchanged"
   pub limit-none : 1 ≤ d .outcome .number → d .outcome .number ≤ 2 → d .limit ≡ 0
-  limit-none h k = unwritten (front (d .codes) (d .gates) (d .limit)) (d .limit) room length-written (w .fits .within) (promised 0 .early h k) (promised 1 .early h k)
+  limit-none h k = unwritten (front (d .codes) (d .gates) (d .limit)) (d .limit) room length-written (w .fits .within) (promised 0 .refusal-leaves h .early k) (promised 1 .refusal-leaves h .early k)
 
   limit-same : exit 0 .list ≡ exit 1 .list → d .limit ≡ room
   limit-same e = whole (front (d .codes) (d .gates) (d .limit)) (d .limit) room length-written (w .fits .within) e
@@ -97,10 +85,10 @@ module _ (j : Job) (s a : List ℕ) (room : ℕ) (d : Done) (a′ : List ℕ) (a
   limit-late h = limit-same (cleared 0 ∙ sym (cleared 1))
     where
       cleared : (t : ℕ) → exit t .list ≡ replicate room (Not 0)
-      cleared t = promised t .late h ∙ ap (λ (i : ℕ). replicate i (Not 0)) (length-replicate room (Not t))
+      cleared t = promised t .refusal-leaves (omega arith) .late h ∙ ap (λ (i : ℕ). replicate i (Not 0)) (length-replicate room (Not t))
 
   limit-success : d .outcome .number ≡ 0 → d .limit ≡ room
-  limit-success z = limit-same (success-same j refl (length-replicate room (Not 0) ∙ sym (length-replicate room (Not 1))) (success j (entry 0) (exit 0) (says 0) z) (success j (entry 1) (exit 1) (says 1) z))
+  limit-success z = limit-same (success-same j refl (length-replicate room (Not 0) ∙ sym (length-replicate room (Not 1))) (promised 0 .success-leaves z) (promised 1 .success-leaves z))
 
   pub limit-all : (d .outcome .number ≡ 1 → ⊥) → (d .outcome .number ≡ 2 → ⊥) → d .limit ≡ room
   limit-all h k = go (d .outcome .number) refl

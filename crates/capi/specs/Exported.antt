@@ -1,14 +1,16 @@
 -- What the C functions promise: those of the jobs, the promise of the job, read through the numbers of gates; and the one that reads a number.
 -- Assumes nothing.
 use mathlib.Core.Path.{_≡_}
-use mathlib.Core.Bool.{cond}
+use mathlib.Core.Logic.{_≢_}
+use mathlib.Core.Bool.{Bool, true, false, cond}
 use mathlib.Core.List.{List, [], _∷_, _++_, map}
 use Prim.Native.Nat.{ℕ, _-_, _≤_}
-use lib.Dec.{eqb, ltb}
+use lib.Dec.{eqb}
 use lib.ListN.{length, getD, take, drop, replicate}
 use Rattle.gates.specs.declared.Gate.{Gate}
 use Rattle.gates.specs.declared.Gate.the-variants.{Not, Powered}
-use Rattle.gates.specs.Code.{code, gate, gates}
+use Rattle.gates.specs.Circuit.{Valid}
+use Rattle.gates.specs.Code.{code, gates}
 use Rattle.records.specs.declared.Outcome.{Outcome}
 use Rattle.jobs.specs.Jobs.{Job}
 use Rattle.jobs.specs.Handing.{Said}
@@ -48,11 +50,17 @@ unfoldable pub gate-parts : Gate → List ℕ
 gate-parts (Not t) = three 4 0 t
 gate-parts (Powered p c t) = three p c t
 
--- the gate of a record; kind 0, which is none, for a number that no gate on 32 lines has
-unfoldable pub record-parts : ℕ → List ℕ
-record-parts k = cond (ltb k 4224) (gate-parts (gate k)) (three 0 0 0)
+-- what is read of the number k: the parts of the gate on 32 lines that has it; kind 0, which is none, if no gate has it
+pub data RecordParts (k : ℕ) : List ℕ → Type 0 where
+  of-gate : {g : Gate} → Valid 32 g → code g ≡ k → RecordParts k (gate-parts g)
+  of-none : ((g : Gate) → Valid 32 g → code g ≢ k) → RecordParts k (three 0 0 0)
 
--- ---- what the functions beneath write
+-- ---- what the functions beneath promise
+
+-- a flag that tells whether P holds
+abbrev pub Whether : Type 0 → Bool → Type 0
+Whether P true = P
+Whether P false = P → ⊥
 
 -- record i: code i of the first `count`, else `not 0`
 abbrev pub record-at : List ℕ → ℕ → ℕ → ℕ

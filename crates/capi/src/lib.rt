@@ -6,9 +6,10 @@ ghost use mathlib.Core.Path.{_≡_};
 ghost use mathlib.Core.List.{[]};
 ghost use Prim.Native.Nat.{_≤_};
 ghost use lib.ListN.{length};
+ghost use Rattle.gates.specs.Code.{Code};
 ghost use Rattle.records.specs.Records.{Fits};
 ghost use Rattle.jobs.specs.Jobs.{mapping, reducing, quoting, writes};
-ghost use Rattle.capi.specs.Exported.{three, record-at, stored, Storable, Tells, gate-parts, record-parts};
+ghost use Rattle.capi.specs.Exported.{three, record-at, stored, Storable, Tells, Whether, gate-parts, RecordParts};
 
 // The record of the gate `not 0`.
 const NOT_0: u16 = 2;
@@ -90,6 +91,24 @@ pub extern "C" fn yilgorza_quote(text: &[u8], list: &mut [u16], outcome: &mut [u
     hand_over(d, list, outcome);
 }
 
+// Whether a number is that of a gate on 32 lines: a NOT of power 2, or a gate with a power whose control is not its target.
+fn is_code(k: u16) -> bool
+    ensures { λ r. ⌜ Whether (Code 32 k) r ⌝ }
+{
+    if 4224 <= k {
+        return false;
+    }
+    let slot = k / 4 % 33;
+    let power = k % 4;
+    if slot == 0 {
+        return power == 2;
+    }
+    if power == 0 {
+        return false;
+    }
+    slot != k / 132 + 1
+}
+
 // A gate as kind, control and target.
 fn gate_parts(g: Gate) -> [u8; 3]
     ensures { λ r. ⌜ r ≡ gate-parts g ⌝ }
@@ -103,9 +122,9 @@ fn gate_parts(g: Gate) -> [u8; 3]
 // Reads a record of the gate list.
 #[no_mangle]
 pub extern "C" fn yilgorza_gate(code: u16, gate: &mut [u8; 3])
-    ensures { λ _. ⌜ now (gate .exit) ≡ record-parts code ⌝ }
+    ensures { λ _. ⌜ RecordParts code (now (gate .exit)) ⌝ }
 {
-    if code < 4224 {
+    if is_code(code) {
         *gate = gate_parts(gates::decode(code));
         return;
     }

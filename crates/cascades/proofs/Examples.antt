@@ -8,9 +8,7 @@ use lib.ListN.{length}
 use Rattle.gates.specs.declared.Gate.the-variants.{Powered}
 use Rattle.gates.specs.Circuit.{target, slot, power, powered}
 use Rattle.gates.specs.Inverse.{inverse, inverted}
-use Rattle.gates.proofs.Sites.{order-targets-equal, order-targets, order, passes-dec}
-use Rattle.gates.proofs.Merge.{merged}
-use Rattle.gates.proofs.Push.{free-dec, turn-of, turn, place, push}
+use Rattle.gates.specs.Push.{merged, passes-dec, same-dec, less-dec, free-dec, turn-of, turn, place, push}
 use Rattle.gates.proofs.Theorem.{nf}
 use Rattle.meaning.specs.Pattern.{has}
 use Rattle.cascades.specs.Expansion.{_⨾_, joined, spare, expand, expansion, counts}
@@ -18,7 +16,7 @@ use Rattle.cascades.proofs.Lowest.{three-controls}
 
 -- the reduced list of `(mct (0 1) 2)`
 two-controls-reduced : nf (expansion 3 (0 ∷ 1 ∷ []) 2) ≡ Powered 1 0 2 ∷ Powered 1 1 2 ∷ Powered 2 0 1 ∷ Powered 3 1 2 ∷ Powered 2 0 1 ∷ []
-unfolding expansion expand _⨾_ target slot power powered order-targets-equal order-targets order passes-dec merged free-dec turn-of turn place push nf ℕ-discrete decLt
+unfolding expansion expand _⨾_ target slot power powered same-dec less-dec passes-dec merged free-dec turn-of turn place push nf ℕ-discrete decLt
 two-controls-reduced = refl
 
 -- 5 lines, `(mct (0 1 2) 3)`: spare 4, expansion 16, quote 14
@@ -31,7 +29,7 @@ unfolding expansion expand _⨾_ joined inverse
 three-controls-count = refl
 
 three-controls-quote : length (nf three-controls) ≡ 14
-unfolding expansion expand spare has _⨾_ joined inverse inverted target slot power powered order-targets-equal order-targets order passes-dec merged free-dec turn-of turn place push nf ℕ-discrete decLt
+unfolding expansion expand spare has _⨾_ joined inverse inverted target slot power powered same-dec less-dec passes-dec merged free-dec turn-of turn place push nf ℕ-discrete decLt
 three-controls-quote = refl
 
 -- the lines below k, rising

@@ -10,10 +10,9 @@ use Rattle.meaning.specs.Pattern.{Pattern, mct}
 use Rattle.meaning.specs.State.{State, run, powered-gates}
 use Rattle.meaning.proofs.Flips.{mct-mct}
 use Rattle.meaning.proofs.Runs.{Acts, acts-inverse}
-use Rattle.cascades.specs.Expansion.{c0, c1, Expands, no-control, one-control, two-controls, more-controls, expansion, Expandable}
-use Rattle.cascades.specs.Cascade.{Below, OnLines}
-use Rattle.cascades.proofs.Halves.{out-cons, out-append, distinct-two, halves-join, halves-on-lines, on-lines}
-use Rattle.cascades.proofs.Lowest.{expansion-expands}
+use Rattle.cascades.specs.Expansion.{c0, c1, Expands, no-control, one-control, two-controls, more-controls}
+use Rattle.cascades.specs.Cascade.{OnLines}
+use Rattle.cascades.proofs.Halves.{out-cons, out-append, distinct-two, halves-join, halves-on-lines}
 use Rattle.cascades.proofs.Valid.{expands-valid}
 use Rattle.cascades.proofs.Acting.{not-acts, cnot-acts, two-acts, joined-acts}
 
@@ -42,6 +41,3 @@ module _ (n : ℕ) where
   pub expands-runs : {cs : List ℕ} {t : ℕ} {c : List Gate} → OnLines n cs t → Expands n cs t c → (ψ : State) (x : Pattern) → run c ψ x ≡ doubled (powered-gates c) (ψ (mct cs t x))
   unfolding Acts
   expands-runs w e ψ x = expands-acts w e ψ x
-
-  pub expansion-acts : (cs : List ℕ) (t : ℕ) → Expandable n cs t → Below n cs → (ψ : State) (x : Pattern) → run (expansion n cs t) ψ x ≡ doubled (powered-gates (expansion n cs t)) (ψ (mct cs t x))
-  expansion-acts cs t w b ψ x = expands-runs (on-lines n w b) (expansion-expands n cs t w) ψ x

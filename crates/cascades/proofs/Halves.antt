@@ -65,8 +65,8 @@ module _ (n : ℕ) where
       let to = out-append t (c0 cs) (c1 cs) cs e (w .other) in
       let apart = distinct-append (c0 cs) (c1 cs) (ap distinct e ∙ w .apart) in
       let st : s ≢ t = λ r. named .0 (sym r) in (
-        record { apart = apart .0; other = so .0; line = sn; spare = λ k. (t, w .line, cons-out t s (c0 cs) st (to .0)) },
-        record { apart = apart .1; other = so .1; line = sn; spare = λ k. (t, w .line, cons-out t s (c1 cs) st (to .1)) },
+        record { apart = apart .0; other = so .0; line = sn; unnamed-line = λ k. (t, w .line, cons-out t s (c0 cs) st (to .0)) },
+        record { apart = apart .1; other = so .1; line = sn; unnamed-line = λ k. (t, w .line, cons-out t s (c1 cs) st (to .1)) },
       )
 
   -- ---- gates that can be expanded are on the n lines

@@ -77,7 +77,7 @@ module _ (n : ℕ) where
   expand-expands (suc f) (a ∷ b ∷ c ∷ cs) t h w =
       let l : List ℕ = a ∷ b ∷ c ∷ cs in
       let s : ℕ = spare n 0 (t ∷ l) in
-      let j = w .spare (omega arith) in
+      let j = w .unnamed-line (omega arith) in
       let s-is = spare-is n 0 (t ∷ l) (j .0) (omega arith) (omega (arith, j .1)) (j .2) in
       let sn : s < n = omega (arith, s-is .1) in
       let halves = halves-expandable n s w sn (s-is .0) in

@@ -17,7 +17,7 @@ use Rattle.meaning.proofs.Runs.{scaled}
 use Rattle.cascades.specs.Cascade.{Controlled, after, expand-all, ExpandsAll, agree, basis, AllOnLines, AllExpandable, targets, Realises}
 use Rattle.cascades.proofs.Halves.{all-on-lines}
 use Rattle.cascades.proofs.Lowest.{expand-all-expands}
-use Rattle.cascades.proofs.Bases.{after-restored, expands-all-basis, matrix-basis}
+use Rattle.cascades.proofs.Bases.{after-restored, matrix-basis}
 
 -- ---- the amplitudes of the start from a pattern
 
@@ -56,11 +56,7 @@ module _ (n : ℕ) {gs : List Controlled} where
 
   -- ---- any choice of spare lines
 
-  -- the joined expansions of its gates realise the cascade
-  pub expansions-realise : {c : List Gate} → AllOnLines n gs → ExpandsAll n gs c → Realises n gs c
-  expansions-realise {c} w es = spelled c (expands-all-basis n w es)
-
-  -- and so does every circuit that has their matrix
+  -- every circuit that has the matrix of the joined expansions of its gates realises the cascade
   pub matrix-realises : {c d : List Gate} → AllOnLines n gs → ExpandsAll n gs d → SameMatrix n c d → Realises n gs c
   matrix-realises {c} w es e = spelled c (matrix-basis n w es c e)
 

@@ -55,7 +55,7 @@ spare-line (suc n) l h = go (has n l) refl (λ k. spare-line n (remove n l) k)
 
 -- distinct controls other than the target, and a line to spare by count
 pub valid : (n : ℕ) (cs : List ℕ) (t : ℕ) → distinct cs ≡ true → has t cs ≡ false → t < n → (3 ≤ length cs → length cs + 1 < n) → Expandable n cs t
-valid n cs t d e h k = record { apart = d; other = e; line = h; spare = λ m. spare-line n (t ∷ cs) (omega (arith, k m)) }
+valid n cs t d e h k = record { apart = d; other = e; line = h; unnamed-line = λ m. spare-line n (t ∷ cs) (omega (arith, k m)) }
 
 -- ---- different lines of n
 

@@ -10,9 +10,9 @@ use Rattle.gates.specs.Circuit.{valid-not, valid-powered, AllValid}
 use Rattle.gates.proofs.Reach.{all-valid-append}
 use Rattle.gates.proofs.Inverses.{all-valid-inverse}
 use Rattle.cascades.specs.Expansion.{_⨾_, joined, toffoli, Expands, no-control, one-control, two-controls, more-controls, expansion, Expandable}
-use Rattle.cascades.specs.Cascade.{Controlled, expand-all, ExpandsAll, no-gate, next-gate, Below, OnLines, AllOnLines, AllExpandable}
-use Rattle.cascades.proofs.Halves.{out-cons, distinct-two, halves-on-lines, on-lines, all-on-lines}
-use Rattle.cascades.proofs.Lowest.{expansion-expands, expand-all-expands}
+use Rattle.cascades.specs.Cascade.{Below, OnLines}
+use Rattle.cascades.proofs.Halves.{out-cons, distinct-two, halves-on-lines, on-lines}
+use Rattle.cascades.proofs.Lowest.{expansion-expands}
 
 module _ (n : ℕ) where
   -- ---- valid circuits
@@ -56,13 +56,3 @@ module _ (n : ℕ) where
 
   pub expansion-fits : (cs : List ℕ) (t : ℕ) → Expandable n cs t → Below n cs → AllValid n (expansion n cs t)
   expansion-fits cs t w b = expands-valid (on-lines n w b) (expansion-expands n cs t w)
-
-  -- ---- cascades
-
-  pub expands-all-valid : {gs : List Controlled} {c : List Gate} → AllOnLines n gs → ExpandsAll n gs c → AllValid n c
-  unfolding AllOnLines
-  expands-all-valid w no-gate = tt
-  expands-all-valid w (next-gate {c = c} {d = d} e es) = valid-then c d (expands-valid (w .0) e) (expands-all-valid (w .1) es)
-
-  pub expand-all-valid : (gs : List Controlled) → AllExpandable n gs → AllValid n (expand-all n gs)
-  expand-all-valid gs w = expands-all-valid (all-on-lines n gs w) (expand-all-expands n gs w)

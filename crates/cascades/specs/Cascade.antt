@@ -22,7 +22,7 @@ pub record Controlled : Type 0 where
   pub controls : List ℕ
   pub target : ℕ
 
--- "the cascade's pattern": what the gates, in order, make of the pattern y
+-- the cascade's pattern: what the gates, in order, make of the pattern y
 unfoldable pub after : List Controlled → Pattern → Pattern
 after [] y = y
 after (g ∷ gs) y = after gs (mct (g .controls) (g .target) y)
@@ -69,7 +69,7 @@ targets (g ∷ gs) = g .target ∷ targets gs
 pub record Realises (n : ℕ) (gs : List Controlled) (c : List Gate) : Type 0 where
   -- the state becomes 2^m times the one that is surely the cascade's pattern:
   pub state : (y : Pattern) → run c (basis n y) ≡ (λ x. doubled (powered-gates c) (basis n (after gs y) x))
-  -- the amplitude is the number 2^m at the cascade's pattern,
+  -- the amplitude is the number 2^m at the cascade's pattern (`amplitude-one` of meaning: `doubled m one` is 2^m),
   pub there : (y x : Pattern) → agree n x (after gs y) ≡ true → run c (basis n y) x ≡ doubled (powered-gates c) one
   -- and 0 elsewhere;
   pub elsewhere : (y x : Pattern) → agree n x (after gs y) ≡ false → run c (basis n y) x ≡ nought

@@ -81,7 +81,7 @@ pub record Expandable (n : ℕ) (cs : List ℕ) (t : ℕ) : Type 0 where
   pub apart : distinct cs ≡ true
   pub other : has t cs ≡ false
   pub line : t < n
-  pub spare : 3 ≤ length cs → (j : ℕ) × (j < n) × (has j (t ∷ cs) ≡ false)
+  pub unnamed-line : 3 ≤ length cs → (j : ℕ) × (j < n) × (has j (t ∷ cs) ≡ false)
 
 -- ---- counts
 

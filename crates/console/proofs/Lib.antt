@@ -1,4 +1,8 @@
 -- The laws and theorems of this crate, in reading order.
 pub mod Counted
 pub mod Front
+pub mod Longest
 pub mod Answers
+pub mod Prints
+pub mod Examples
+pub mod Numbers

@@ -1,9 +1,10 @@
 -- What is known of the input that was read. Assumes nothing.
 use Prim.Native.Nat.{ℕ, _≤_}
 use Rattle.console.specs.declared.Input.{Input}
-use Rattle.console.specs.declared.Input.the-variants.{Bytes, Unreadable}
+use Rattle.console.specs.declared.Input.the-variants.{Bytes, Unreadable, Misused}
 
 -- the bytes read are no fewer than a and no more than b
 abbrev pub Within : ℕ → ℕ → Input → Type 0
 Within a b (Bytes n) = (a ≤ n) × (n ≤ b)
 Within a b Unreadable = Unit {0}
+Within a b Misused = Unit {0}

@@ -1,9 +1,19 @@
-// The three programs: standard input read, a job done on it, and its answer or refusal written.
+// The programs over one text: the text read from a file or from standard input, a job done on it, and the bytes of its answer written.
 ghost use Prim.Native.Nat.{_≤_};
 ghost use lib.ListN.{length};
+ghost use Rattle.jobs.specs.Jobs.{output};
 ghost use Rattle.console.specs.Input.{Within};
-ghost use Rattle.console.specs.Output.{Holds, Printable};
+ghost use Rattle.console.specs.Output.{Prints, job-of, Answers, Does, Succeeds};
 use records::Outcome;
+
+// How many bytes a text may have.
+const TEXT_BYTES: usize = 60000;
+
+// How many bytes the longest answer has: 11 for line 1 and for each of 4,096 gates.
+pub const ANSWER_BYTES: usize = 11 + 11 * 4096;
+
+// How many bytes the name of a file may have.
+const NAME_BYTES: usize = 4095;
 
 // The job of a program.
 pub enum Job {
@@ -12,18 +22,57 @@ pub enum Job {
     Quote,
 }
 
-// How many bytes of standard input stand at the front of the buffer; or the input cannot be read.
+// ---- what a program writes
+
+// Does a job on a text, with a gate list of its own. Map and reduce leave their text at the front of the area; quote needs none.
+fn outcome_of(job: Job, text: &[u8], out: &mut [u8]) -> Outcome
+    ensures { λ r. ⌜ Does job (now (text .entry)) (now (out .entry)) r (now (out .exit)) ⌝ }
+{
+    match job {
+        Job::Map => jobs::map_text(text, out),
+        Job::Reduce => jobs::reduce_text(text, out),
+        Job::Quote => jobs::quote_text(text),
+    }
+}
+
+// Writes the answer by its count, and gives its length: the text of map and reduce stands there already, and the count is its length.
+fn write_success(job: Job, count: usize, out: &mut [u8]) -> usize
+    requires { ⌜ 64 ≤ length (now out) ⌝ }
+    ensures { λ r. ⌜ Succeeds (output (job-of job)) count (now (out .entry)) r (now (out .exit)) ⌝ }
+{
+    match job {
+        Job::Map => count,
+        Job::Reduce => count,
+        Job::Quote => writing::write_quote(count, out),
+    }
+}
+
+// Leaves at the front of the area the bytes that a program writes for a text, and gives their number.
+pub fn answer(job: Job, text: &[u8], out: &mut [u8; ANSWER_BYTES]) -> usize
+    ensures { λ r. ⌜ Answers job (now (text .entry)) (now (out .entry)) r (now (out .exit)) ⌝ }
+{
+    let outcome = outcome_of(job, text, out);
+    if outcome.number != 0 {
+        return writing::write_turned_away(outcome.number, outcome.line, out);
+    }
+    write_success(job, outcome.count, out)
+}
+
+// ---- what a program reads
+
+// How many bytes of a text stand at the front of the buffer; the text cannot be read; or the program's arguments do not name it.
 pub enum Input {
     Bytes(usize),
     Unreadable,
+    Misused,
 }
 
 // One read, behind the n bytes that the buffer holds. The programs set no handler for signals, so nothing interrupts it.
-fn read_more(buffer: &mut [u8], n: usize) -> Input
+fn read_more(fd: i32, buffer: &mut [u8], n: usize) -> Input
     requires { ⌜ n ≤ length (now buffer) ⌝ }
     ensures { λ r. ⌜ Within n (length (now (buffer .entry))) r ⌝ }
 {
-    let got = libc::read(libc::STDIN_FILENO, &mut buffer[n..]);
+    let got = libc::read(fd, &mut buffer[n..]);
     if got < 0 {
         return Input::Unreadable;
     }
@@ -31,13 +80,13 @@ fn read_more(buffer: &mut [u8], n: usize) -> Input
 }
 
 // Reads until the buffer is full or the input ends. Each turn that goes on takes a byte at least.
-fn read_input(buffer: &mut [u8]) -> Input
+fn read_input(fd: i32, buffer: &mut [u8]) -> Input
     ensures { λ r. ⌜ Within 0 (length (now (buffer .exit))) r ⌝ }
 {
     let size = buffer.len();
     let mut n = 0;
     while n < size {
-        let Input::Bytes(m) = read_more(buffer, n) else {
+        let Input::Bytes(m) = read_more(fd, buffer, n) else {
             return Input::Unreadable;
         };
         if m == n {
@@ -48,80 +97,101 @@ fn read_input(buffer: &mut [u8]) -> Input
     Input::Bytes(n)
 }
 
-// Says that the input cannot be read.
-fn tell_unreadable() {
-    io::write_all(libc::STDERR_FILENO, b"standard input cannot be read\n");
+// Writes a line to standard error.
+fn tell(line: &[u8]) {
+    io::write_all(libc::STDERR_FILENO, line);
 }
 
-// Writes the first n bytes to standard output, or says that it cannot.
-fn print(bytes: &[u8], n: usize)
-    requires { ⌜ n ≤ length (now bytes) ⌝ }
+// Reads standard input, or says that it cannot.
+fn read_standard(buffer: &mut [u8]) -> Input
+    ensures { λ r. ⌜ Within 0 (length (now (buffer .exit))) r ⌝ }
 {
-    if !io::write_all(libc::STDOUT_FILENO, &bytes[..n]) {
-        io::write_all(libc::STDERR_FILENO, b"standard output cannot be written\n");
+    let input = read_input(libc::STDIN_FILENO, buffer);
+    if let Input::Unreadable = input {
+        tell(b"standard input cannot be read\n");
     }
+    input
 }
 
-// Writes `(turned-away r l)`.
-fn print_refusal(number: u8, line: usize) {
-    let mut out = [0u8; 64];
-    let n = writing::write_turned_away(number, line, &mut out);
-    print(&out, n);
-}
-
-// Writes the answer text of map or reduce, or the refusal.
-fn print_text(outcome: Outcome, answer: &[u8])
-    requires { ⌜ Holds outcome (now answer) ⌝ }
+// Reads the file of this name, or says why it cannot.
+fn read_file(path: &[u8], buffer: &mut [u8]) -> Input
+    ensures { λ r. ⌜ Within 0 (length (now (buffer .exit))) r ⌝ }
 {
-    if outcome.number != 0 {
-        print_refusal(outcome.number, outcome.line);
-        return;
+    let fd = os::open_read(path);
+    if fd < 0 {
+        os::fail(path);
+        return Input::Unreadable;
     }
-    print(answer, outcome.count);
+    let input = read_input(fd, buffer);
+    if let Input::Unreadable = input {
+        os::fail(path);
+    }
+    libc::close(fd);
+    input
 }
 
-// Writes `(quote c)`, or the refusal.
-fn print_quote(outcome: Outcome) {
-    if outcome.number != 0 {
-        print_refusal(outcome.number, outcome.line);
-        return;
-    }
-    let mut out = [0u8; 64];
-    let n = writing::write_quote(outcome.count, &mut out);
-    print(&out, n);
-}
-
-// Writes the answer of a job, or the refusal.
-fn print_answer(job: Job, outcome: Outcome, answer: &[u8])
-    requires { ⌜ Printable job outcome (now answer) ⌝ }
+// Reads the file that argument i names. One that is missing, empty, too long or begins with `-` names none.
+pub fn read_argument(i: usize, buffer: &mut [u8]) -> Input
+    ensures { λ r. ⌜ Within 0 (length (now (buffer .exit))) r ⌝ }
 {
+    let mut name = [0u8; NAME_BYTES];
+    let n = os::arg(i, &mut name);
+    if n == 0 {
+        return Input::Misused;
+    }
+    if name[0] == b'-' {
+        return Input::Misused;
+    }
+    read_file(&name[..n], buffer)
+}
+
+// Reads the text of a program over one text: the file that its argument names, or standard input where it has none.
+fn read_text(buffer: &mut [u8]) -> Input
+    ensures { λ r. ⌜ Within 0 (length (now (buffer .exit))) r ⌝ }
+{
+    let words = os::arg_count();
+    if words > 2 {
+        return Input::Misused;
+    }
+    if words == 2 {
+        return read_argument(1, buffer);
+    }
+    read_standard(buffer)
+}
+
+// Says how a program over one text is called.
+fn tell_usage(job: Job) {
     match job {
-        Job::Map => print_text(outcome, answer),
-        Job::Reduce => print_text(outcome, answer),
-        Job::Quote => print_quote(outcome),
+        Job::Map => tell(b"usage: map [FILE]\n"),
+        Job::Reduce => tell(b"usage: reduce [FILE]\n"),
+        Job::Quote => tell(b"usage: quote [FILE]\n"),
     }
 }
 
-// Does a job on a text, with a gate list of its own.
-fn answer_of(job: Job, text: &[u8], answer: &mut [u8]) -> Outcome
-    ensures { λ r. ⌜ Printable job r (now (answer .exit)) ⌝ }
+// ---- a program
+
+// Writes to standard output what the program of a job is to write for a text, which its contract names, or says that it cannot.
+fn print(job: Job, text: &[u8], bytes: &[u8])
+    requires { ⌜ Prints (job-of job) (now text) (now bytes) ⌝ }
 {
-    match job {
-        Job::Map => jobs::map_text(text, answer),
-        Job::Reduce => jobs::reduce_text(text, answer),
-        Job::Quote => jobs::quote_text(text),
+    if !io::write_all(libc::STDOUT_FILENO, bytes) {
+        tell(b"standard output cannot be written\n");
     }
 }
 
-// A program: does a job on the text on standard input. The buffer takes one byte more than a text may have. The answer area takes the longest
-// answer: 11 bytes for line 1 and for each of 4,096 gates.
+// Writes the answer of a job on a text.
+fn run_on(job: Job, text: &[u8]) {
+    let mut out = [0u8; ANSWER_BYTES];
+    let n = answer(job, text, &mut out);
+    print(job, text, &out[..n]);
+}
+
+// A program: does a job on a text. The buffer takes one byte more than a text may have, so a longer one is seen to be too long.
 pub fn run(job: Job) {
-    let mut buffer = [0u8; 60001];
-    let Input::Bytes(n) = read_input(&mut buffer) else {
-        tell_unreadable();
-        return;
-    };
-    let mut answer = [0u8; 45067];
-    let outcome = answer_of(job, &buffer[..n], &mut answer);
-    print_answer(job, outcome, &answer);
+    let mut buffer = [0u8; TEXT_BYTES + 1];
+    match read_text(&mut buffer) {
+        Input::Bytes(n) => run_on(job, &buffer[..n]),
+        Input::Unreadable => {}
+        Input::Misused => tell_usage(job),
+    }
 }

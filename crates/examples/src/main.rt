@@ -5,6 +5,9 @@ ghost use lib.ListN.{length};
 ghost use Rattle.io.specs.Counts.{Counts};
 use records::Outcome;
 
+// How many bytes the longest answer has: 11 for line 1 and for each of 4,096 gates.
+const ANSWER_BYTES: usize = 11 + 11 * 4096;
+
 fn print(bytes: &[u8]) {
     io::write_all(libc::STDOUT_FILENO, bytes);
 }
@@ -32,14 +35,14 @@ fn tell(job: &[u8], example: &[u8], number: u8, line: usize, given: Outcome) {
 // Tries the jobs that take a cascade.
 fn try_cascade(example: &[u8], text: &[u8], number: u8, line: usize) {
     tell(b"quote, ", example, number, line, jobs::quote_text(text));
-    let mut answer = [0u8; 45067];
+    let mut answer = [0u8; ANSWER_BYTES];
     let given = jobs::map_text(text, &mut answer);
     tell(b"map, ", example, number, line, given);
 }
 
 // Tries the job that takes a circuit.
 fn try_circuit(example: &[u8], text: &[u8], number: u8, line: usize) {
-    let mut answer = [0u8; 45067];
+    let mut answer = [0u8; ANSWER_BYTES];
     let given = jobs::reduce_text(text, &mut answer);
     tell(b"reduce, ", example, number, line, given);
 }

@@ -62,7 +62,7 @@ pub record Split (n : ℕ) (l : List ℕ) (t s h : ℕ) : Type 0 where
 
 pub split : (n : ℕ) (l : List ℕ) (t s h : ℕ) → 3 ≤ length l → Expandable n l t → Below n l → s ≡ spare n 0 (t ∷ l) → h ≡ length l / 2 → Split n l t s h
 split n l t s h k w b s-is h-is =
-    let j = w .spare k in
+    let j = w .unnamed-line k in
     let found = spare-is n 0 (t ∷ l) (j .0) (omega arith) (omega (arith, j .1)) (j .2) in
     let inside : s < n = omega (arith, found .1) in
     let out : has s (t ∷ l) ≡ false = rw s-is (found .0) in

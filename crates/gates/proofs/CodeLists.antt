@@ -1,10 +1,10 @@
 -- Circuits as lists of numbers: there and back, parts of such lists, more lines, and dictionary order. Assumes nothing.
-use mathlib.Core.Path.{_≡_, refl, sym, ap, _∙_}
+use mathlib.Core.Path.{_≡_, refl}
 use mathlib.Core.Logic.{_↔_, _⊎_, inl, inr}
 use mathlib.Core.List.{List, [], _∷_, _++_, map, map-append}
 use Prim.Native.Nat.{ℕ, zero, suc, _≤_, _<_}
 use native.Mathlib.Omega.{arith}
-use lib.ListN.{length, length-map, getD, take, drop, set}
+use lib.ListN.{length, length-map, getD, take, drop}
 use lib.Seq.{length-take-le, getD-take}
 use Rattle.gates.specs.declared.Gate.{Gate}
 use Rattle.gates.specs.Circuit.{Valid, valid-not, valid-powered, AllValid}
@@ -21,27 +21,13 @@ length-gates l = length-map l gate
 pub gates-append : (l m : List ℕ) → gates (l ++ m) ≡ gates l ++ gates m
 gates-append l m = map-append gate l m
 
-pub gates-take : (i : ℕ) (l : List ℕ) → gates (take i l) ≡ take i (gates l)
-gates-take zero l = refl
-gates-take (suc i) [] = refl
-gates-take (suc i) (k ∷ l) = ap (λ w. gate k ∷ w) (gates-take i l)
-
 pub gates-drop : (i : ℕ) (l : List ℕ) → gates (drop i l) ≡ drop i (gates l)
 gates-drop zero l = refl
 gates-drop (suc i) [] = refl
 gates-drop (suc i) (k ∷ l) = gates-drop i l
 
-pub gates-set : (l : List ℕ) (i k : ℕ) → gates (set l i k) ≡ set (gates l) i (gate k)
-gates-set [] i k = refl
-gates-set (j ∷ l) zero k = refl
-gates-set (j ∷ l) (suc i) k = ap (λ w. gate j ∷ w) (gates-set l i k)
-
 module _ (n : ℕ) where
   -- ---- there and back
-
-  pub all-valid-gates : (l : List ℕ) → AllCodes n l → AllValid n (gates l)
-  all-valid-gates [] h = tt
-  all-valid-gates (k ∷ l) h = (h .0 .valid, all-valid-gates l (h .1))
 
   pub code-gates : (l : List ℕ) → AllCodes n l → map code (gates l) ≡ l
   code-gates [] h = refl
@@ -54,10 +40,6 @@ module _ (n : ℕ) where
   pub gates-code : (c : List Gate) → n ≤ 32 → AllValid n c → gates (map code c) ≡ c
   gates-code [] h f = refl
   gates-code (g ∷ c) h f = rw (gate-code h (f .0), gates-code c h (f .1))
-
-  -- lists of numbers with the same gates are equal
-  pub gates-injective : (l m : List ℕ) → AllCodes n l → AllCodes n m → gates l ≡ gates m → l ≡ m
-  gates-injective l m h k e = sym (code-gates l h) ∙ ap (map code) e ∙ code-gates m k
 
   -- ---- parts of lists of numbers
 

@@ -76,10 +76,6 @@ gate-code h (valid-powered {p} {c} {t} a b i j d) =
 pub code-code : {n : ℕ} {g : Gate} → n ≤ 32 → Valid n g → Code n (code g)
 code-code {n} {g} h v = let e = gate-code h v in record { valid = rw e v; exact = ap code e }
 
--- the numbers of the gates that are valid on n lines, exactly
-pub code-exactly : {n k : ℕ} → n ≤ 32 → Code n k ↔ ((g : Gate) × Valid n g × (code g ≡ k))
-code-exactly {n} {k} h = (λ w. (gate k, w .valid, w .exact), λ x. rw (x .2) at (code-code h (x .1)))
-
 -- different gates have different numbers
 pub code-injective : {n : ℕ} {g h : Gate} → n ≤ 32 → Valid n g → Valid n h → code g ≡ code h → g ≡ h
 code-injective l v w e = sym (gate-code l v) ∙ ap gate e ∙ gate-code l w

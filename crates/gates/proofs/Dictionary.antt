@@ -7,10 +7,9 @@ use native.Mathlib.Omega.{arith}
 use lib.ListN.{length, length-append}
 use Rattle.gates.specs.declared.Gate.{Gate}
 use Rattle.gates.specs.Order.{Earlier, by-target, by-control, by-power, _≼_, none, less, same}
-use Rattle.gates.proofs.Sites.{Less, low, tie}
+use Rattle.gates.specs.Push.{Less, low, tie, Turn, meets, enters, stays, turn, push, pushes}
 use Rattle.gates.proofs.Merge.{merged-elim}
-use Rattle.gates.proofs.Push.{Turn, meets, enters, stays, turn, push, push-nil, push-meets, push-enters, push-stays}
-use Rattle.gates.proofs.Same.{pushes}
+use Rattle.gates.proofs.Push.{push-nil, push-meets, push-enters, push-stays}
 
 -- ---- the order of gates
 

@@ -12,10 +12,8 @@ use Rattle.gates.specs.Every.{Every}
 use Rattle.gates.specs.Circuit.{target, slot, power, powered, Valid, valid-not, valid-powered, AllValid}
 use Rattle.gates.specs.Reduced.{Reduced}
 use Rattle.gates.specs.Code.{code, assembled, gate}
+use Rattle.gates.specs.Push.{merged, passes-dec, same-dec, less-dec, free-dec, turn-of, turn, place, push}
 use Rattle.gates.proofs.Every.{every-follows}
-use Rattle.gates.proofs.Sites.{order-targets-equal, order-targets, order, passes-dec}
-use Rattle.gates.proofs.Merge.{merged}
-use Rattle.gates.proofs.Push.{free-dec, turn-of, turn, place, push}
 use Rattle.gates.proofs.Theorem.{nf, nf-reduced}
 
 -- ---- reduced lists
@@ -69,7 +67,7 @@ all-reduced : (t : List (List Gate × List Gate)) → AllComputed t → AllReduc
 all-reduced = every-follows _ _ (λ row h. rw (h .1) at (nf-reduced 3 (row .0) (all-valid (row .0) (h .0))))
 
 pub starred-examples : AllReduced table
-unfolding target slot power powered order-targets-equal order-targets order passes-dec merged free-dec turn-of turn place push nf ℕ-discrete decLt
+unfolding target slot power powered passes-dec same-dec less-dec merged free-dec turn-of turn place push nf ℕ-discrete decLt
 starred-examples = all-reduced table ((omega arith, refl), ((omega arith, refl), ((omega arith, refl), ((omega arith, refl), ((omega arith, refl), ((omega arith, refl), ((omega arith, refl), tt)))))))
 
 -- ---- numbers

@@ -11,11 +11,12 @@ use Rattle.gates.specs.declared.Gate.the-variants.{Not, Powered}
 use Rattle.gates.specs.Circuit.{target, slot, power, powered, Valid, valid-not, valid-powered, AllValid, Passes, Rewrite, pass, merge, cancel, Step, step, Linked, done, forth, back}
 use Rattle.gates.specs.Reduced.{Reduced}
 use Rattle.gates.specs.Inverse.{inverted, inverse}
-use Rattle.gates.proofs.Sites.{Same, passes-sym, passes-same, passes-same-right}
-use Rattle.gates.proofs.Merge.{powered-one, merged, merged-rewrite}
+use Rattle.gates.specs.Push.{Same, merged}
+use Rattle.gates.proofs.Sites.{passes-sym, passes-same, passes-same-right}
+use Rattle.gates.proofs.Merge.{powered-one, merged-rewrite}
 use Rattle.gates.proofs.Reach.{all-valid-append, all-valid-left, all-valid-right}
 use Rattle.gates.proofs.Chains.{linked-trans, linked-context}
-use Rattle.gates.proofs.Theorem.{nf, linked-nf, nf-linked}
+use Rattle.gates.proofs.Theorem.{nf, linked-nf}
 use Rattle.gates.proofs.ReducedLists.{reduced-linked, reduced-fewest}
 use Rattle.gates.proofs.Joins.{nf-nil}
 
@@ -138,9 +139,6 @@ module _ (n : ℕ) where
   pub reduced-inverse : {c r s : List Gate} → Reduced n c r → Reduced n (inverse c) s → Reduced n (inverse r) s
   reduced-inverse x y = reduced-linked n (linked-inverse (x .linked)) y
 
-  pub nf-inverse : (c : List Gate) → AllValid n c → nf (inverse c) ≡ nf (inverse (nf c))
-  nf-inverse c f = linked-nf n (linked-inverse (nf-linked n c f))
-
   -- it has as many gates as the circuit's
   pub length-reduced-inverse : {c r s : List Gate} → AllValid n c → Reduced n c r → Reduced n (inverse c) s → length r ≡ length s
   length-reduced-inverse {c} {r} {s} f x y =
@@ -150,9 +148,6 @@ module _ (n : ℕ) where
       omega (arith, length-inverse r, length-inverse s)
 
   -- the inverse of the inverse has the circuit's reduced list
-  pub nf-inverse-inverse : (c : List Gate) → AllValid n c → nf (inverse (nf (inverse c))) ≡ nf c
-  nf-inverse-inverse c f = sym (nf-inverse (inverse c) (all-valid-inverse n c f)) ∙ ap nf (inverse-inverse n c f)
-
   -- a circuit joined with its inverse, either way round, reduces to no gates
   pub nf-undone : (c : List Gate) → AllValid n c → nf (c ++ inverse c) ≡ []
   nf-undone c f = linked-nf n (linked-undone c f) ∙ nf-nil

@@ -8,8 +8,7 @@ use lib.ListN.{length, length-append}
 use Rattle.gates.specs.declared.Gate.{Gate}
 use Rattle.gates.specs.Circuit.{AllValid, Linked, done}
 use Rattle.gates.specs.Reduced.{Reduced}
-use Rattle.gates.proofs.Push.{push}
-use Rattle.gates.proofs.Same.{pushes}
+use Rattle.gates.specs.Push.{push, pushes}
 use Rattle.gates.proofs.Reach.{all-valid-append, all-valid-left, all-valid-right}
 use Rattle.gates.proofs.Chains.{linked-join}
 use Rattle.gates.proofs.Theorem.{nf, pushes-append, linked-nf, nf-linked, nf-reduced}
@@ -38,12 +37,6 @@ module _ (n : ℕ) where
 
   pub nf-join : (c d : List Gate) → AllValid n c → AllValid n d → nf (c ++ d) ≡ nf (nf c ++ nf d)
   nf-join c d f h = linked-nf n (linked-join f h (nf-linked n c f) (nf-linked n d h))
-
-  pub nf-join-left : (c d : List Gate) → AllValid n c → AllValid n d → nf (c ++ d) ≡ nf (nf c ++ d)
-  nf-join-left c d f h = linked-nf n (linked-join f h (nf-linked n c f) (done {c = d}))
-
-  pub nf-join-right : (c d : List Gate) → AllValid n c → AllValid n d → nf (c ++ d) ≡ nf (c ++ nf d)
-  nf-join-right c d f h = linked-nf n (linked-join f h (done {c = c}) (nf-linked n d h))
 
   -- it has at most as many gates as the two have together
   pub length-nf-join : (c d : List Gate) → AllValid n c → AllValid n d → length (nf (c ++ d)) ≤ length (nf c) + length (nf d)

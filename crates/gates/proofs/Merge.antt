@@ -8,17 +8,12 @@ use native.Mathlib.Omega.{arith}
 use Rattle.gates.specs.declared.Gate.{Gate}
 use Rattle.gates.specs.declared.Gate.the-variants.{Not, Powered}
 use Rattle.gates.specs.Circuit.{target, slot, power, powered, Valid, valid-not, valid-powered, AllValid, Rewrite, merge, cancel}
-use Rattle.gates.proofs.Sites.{Same}
+use Rattle.gates.specs.Push.{Same, merged}
 
 pub powered-one : (p c t : ℕ) → 1 ≤ p → powered p c t ≡ Powered p c t ∷ []
 unfolding powered
 powered-one zero c t h = absurd (omega arith)
 powered-one (suc p) c t h = refl
-
--- a and g, of one site, as one gate or none
-unfoldable pub merged : Gate → Gate → List Gate
-merged (Not t) g = []
-merged (Powered p c t) g = powered ((p + power g) % 4) c t
 
 -- none is left, or one gate of the site
 pub data Sum (a g : Gate) : Type 0 where

@@ -5,24 +5,11 @@ use mathlib.Core.Logic.{_⊎_, inl, inr}
 use mathlib.Core.List.{List, [], _∷_, _++_}
 use Rattle.gates.specs.declared.Gate.{Gate}
 use Rattle.gates.specs.Circuit.{Passes}
-use Rattle.gates.proofs.Sites.{Same, Less, Order, before, level, after, order, same-refl, same-sym, same-trans, less-same, same-less, less-trans, less-irrefl, less-asym}
+use Rattle.gates.specs.Push.{Same, Less, merged, Free, free-nil, free-cons, free-head, free-tail, NotMeets, NotEnters, Turn, meets, enters, stays, turn, push, Front, here, there, Lowest, Normal, normal-nil, normal-cons}
+use Rattle.gates.proofs.Sites.{Order, before, level, after, order, same-refl, same-sym, same-trans, less-same, same-less, less-trans, less-irrefl, less-asym}
 use Rattle.gates.proofs.Sites.{passes-sym, passes-same, passes-same-right}
-use Rattle.gates.proofs.Push.{NotMeets, NotEnters, Free, free-nil, free-cons, free-head, free-tail, free-same, Turn, meets, enters, stays, turn, push, push-nil, push-meets, push-enters, push-stays}
-use Rattle.gates.proofs.Merge.{merged, Sum, gone, one, sum, merged-elim}
-
--- s is in front: some gate of its site passes all before it
-pub data Front (s : Gate) : List Gate → Type 0 where
-  here : {a : Gate} {v : List Gate} → Same a s → Front s (a ∷ v)
-  there : {a : Gate} {v : List Gate} → Passes s a → Front s v → Front s (a ∷ v)
-
--- each site in front of v that passes a comes after a
-abbrev pub Lowest : Gate → List Gate → Type 0
-Lowest a v = (s : Gate) → Front s v → Passes s a → Less a s
-
--- normal form: behind each gate, all that could come forward to it is later than it
-pub data Normal : List Gate → Type 0 where
-  normal-nil : Normal []
-  normal-cons : {a : Gate} {v : List Gate} → Normal v → Lowest a v → Normal (a ∷ v)
+use Rattle.gates.proofs.Push.{free-same, push-nil, push-meets, push-enters, push-stays}
+use Rattle.gates.proofs.Merge.{Sum, gone, one, sum, merged-elim}
 
 -- ---- freedom: where h passes g, it is free over a list exactly if it is over the list with g pushed
 

@@ -4,11 +4,11 @@ use mathlib.Core.List.{List, [], _∷_, _++_, append-nil, append-assoc}
 use Prim.Native.Nat.{ℕ}
 use Rattle.gates.specs.declared.Gate.{Gate}
 use Rattle.gates.specs.Circuit.{Valid, AllValid, pass, Step, step, Reaches, stop, more}
+use Rattle.gates.specs.Push.{merged, Free, free-nil, free-cons, Turn, meets, enters, stays, turn, push, pushes}
 use Rattle.gates.proofs.Every.{every-append, every-left, every-right}
 use Rattle.gates.proofs.Sites.{passes-sym}
-use Rattle.gates.proofs.Merge.{merged, merged-rewrite, all-valid-merged}
-use Rattle.gates.proofs.Push.{Free, free-nil, free-cons, Turn, meets, enters, stays, turn, push, push-nil, push-meets, push-enters, push-stays}
-use Rattle.gates.proofs.Same.{pushes}
+use Rattle.gates.proofs.Merge.{merged-rewrite, all-valid-merged}
+use Rattle.gates.proofs.Push.{push-nil, push-meets, push-enters, push-stays}
 
 module _ (n : ℕ) where
   -- ---- valid circuits, joined and split

@@ -1,5 +1,5 @@
 -- The theorem of reduced lists, in document 01's terms: for every number n of lines, and circuits of any length. Assumes nothing.
-use mathlib.Core.Path.{_≡_, sym}
+use mathlib.Core.Path.{_≡_}
 use mathlib.Core.Logic.{_↔_}
 use mathlib.Core.List.{List}
 use Prim.Native.Nat.{ℕ, _≤_}
@@ -8,7 +8,7 @@ use Rattle.gates.specs.declared.Gate.{Gate}
 use Rattle.gates.specs.Circuit.{AllValid, Linked, Reaches}
 use Rattle.gates.specs.Reduced.{Reduced}
 use Rattle.gates.proofs.Chains.{linked-trans, linked-both, linked-sym, linked-all-valid}
-use Rattle.gates.proofs.Theorem.{nf, nf-reached, nf-linked, nf-reduced, reduced-unique, linked-nf}
+use Rattle.gates.proofs.Theorem.{nf, nf-reached, nf-reduced, reduced-unique}
 
 module _ (n : ℕ) where
   -- every circuit has exactly one reduced list
@@ -42,9 +42,6 @@ module _ (n : ℕ) where
   -- a reduced list is its own reduced list
   pub reduced-reduced : {c r : List Gate} → Reduced n c r → Reduced n r r
   reduced-reduced x = reduced-linked (x .linked) x
-
-  pub nf-nf : (c : List Gate) → AllValid n c → nf (nf c) ≡ nf c
-  nf-nf c f = sym (linked-nf n (nf-linked n c f))
 
 -- the number of lines does not matter to the reduced list of a circuit that has room on both
 pub reduced-on-lines : (n m : ℕ) {c r : List Gate} → AllValid n c → AllValid m c → Reduced n c r → Reduced m c r

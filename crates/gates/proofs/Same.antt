@@ -5,16 +5,12 @@ use mathlib.Core.List.{List, [], _∷_}
 use Prim.Native.Nat.{ℕ}
 use Rattle.gates.specs.declared.Gate.{Gate}
 use Rattle.gates.specs.Circuit.{Passes, Valid, AllValid}
-use Rattle.gates.proofs.Sites.{Same, Less, same-sym, same-trans, same-less}
+use Rattle.gates.specs.Push.{Same, Less, merged, Free, free-nil, free-cons, NotMeets, NotEnters, Turn, meets, enters, stays, turn, push, pushes, Lowest, Normal, normal-nil, normal-cons}
+use Rattle.gates.proofs.Sites.{same-sym, same-trans, same-less}
 use Rattle.gates.proofs.Sites.{passes-sym, passes-same-right, passes-self}
-use Rattle.gates.proofs.Merge.{merged, Sum, gone, one, sum, Triple, neither, left, right, both, triple}
-use Rattle.gates.proofs.Push.{NotMeets, NotEnters, Free, free-nil, free-cons, free-same, Turn, meets, enters, stays, turn, push, push-nil, push-meets, push-enters, push-stays, stays-same}
-use Rattle.gates.proofs.Normal.{Lowest, Normal, normal-nil, normal-cons, free-pushed, head}
-
--- the gates of a list pushed one after the other
-abbrev pub pushes : List Gate → List Gate → List Gate
-pushes v [] = v
-pushes v (g ∷ c) = pushes (push v g) c
+use Rattle.gates.proofs.Merge.{Sum, gone, one, sum, Triple, neither, left, right, both, triple}
+use Rattle.gates.proofs.Push.{free-same, push-nil, push-meets, push-enters, push-stays, stays-same}
+use Rattle.gates.proofs.Normal.{free-pushed, head}
 
 -- by what g does at the first gate a
 module _ {n : ℕ} {a : Gate} {v : List Gate} {g h : Gate} where

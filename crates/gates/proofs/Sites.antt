@@ -1,22 +1,11 @@
--- The site of a gate is its target and its slot: when two gates have one site, the order of sites, and that passing depends on sites alone;
--- document 01's two examples of passing. Assumes nothing.
+-- Sites: one site is an equivalence, the order of sites is total, and passing depends on sites alone. Assumes nothing.
 use mathlib.Core.Path.{_≡_, refl}
-use Prim.Native.Nat.{ℕ, suc, _<_}
+use Prim.Native.Nat.{ℕ, _<_}
 use native.Mathlib.Omega.{arith}
-use native.Mathlib.Decide.{ℕ-discrete, decLt}
+use native.Mathlib.Decide.{decLt}
 use Rattle.gates.specs.declared.Gate.{Gate}
-use Rattle.gates.specs.declared.Gate.the-variants.{Powered}
 use Rattle.gates.specs.Circuit.{target, slot, Passes, Valid, valid-not, valid-powered}
-
--- g and h have one site
-pub record Same (g h : Gate) : Type 0 where
-  pub targets : target g ≡ target h
-  pub controls : slot g ≡ slot h
-
--- the order of sites: by target, then by slot
-pub data Less (g h : Gate) : Type 0 where
-  low : target g < target h → Less g h
-  tie : target g ≡ target h → slot g < slot h → Less g h
+use Rattle.gates.specs.Push.{Same, Less, low, tie}
 
 pub same-refl : (g : Gate) → Same g g
 same-refl g = record { targets = refl; controls = refl }
@@ -54,30 +43,20 @@ pub data Order (g h : Gate) : Type 0 where
   level : Same g h → Order g h
   after : Less h g → Order g h
 
-unfoldable pub order-targets-equal : {g h : Gate} → target g ≡ target h → Dec (slot g < slot h) → Dec (slot h < slot g) → Order g h
+order-targets-equal : {g h : Gate} → target g ≡ target h → Dec (slot g < slot h) → Dec (slot h < slot g) → Order g h
 order-targets-equal e (yes l) d = before (tie e l)
 order-targets-equal e (no l) (yes m) = after (tie (omega arith) m)
 order-targets-equal e (no l) (no m) = level (omega arith)
 
-unfoldable pub order-targets : {g h : Gate} → Dec (target g < target h) → Dec (target h < target g) → Order g h
+order-targets : {g h : Gate} → Dec (target g < target h) → Dec (target h < target g) → Order g h
 order-targets (yes l) d = before (low l)
 order-targets (no l) (yes m) = after (low m)
 order-targets {g} {h} (no l) (no m) = order-targets-equal (omega arith) (decLt (slot g) (slot h)) (decLt (slot h) (slot g))
 
-unfoldable pub order : (g h : Gate) → Order g h
+pub order : (g h : Gate) → Order g h
 order g h = order-targets (decLt (target g) (target h)) (decLt (target h) (target g))
 
 -- ---- passing
-
--- document 01, "Wrong turns": `cn 0 1` doesn't pass `cn 1 2`, though they share no target
-share-no-target : Passes (Powered 2 0 1) (Powered 2 1 2) → ⊥
-unfolding target slot
-share-no-target p = omega arith
-
--- and `v 0 2` and `v 1 2` do pass, though they have one target
-share-one-target : Passes (Powered 1 0 2) (Powered 1 1 2)
-unfolding target slot
-share-one-target = omega arith
 
 pub passes-sym : {g h : Gate} → Passes g h → Passes h g
 passes-sym p = omega arith
@@ -87,14 +66,6 @@ passes-same s p = omega arith
 
 pub passes-same-right : {g h k : Gate} → Same h k → Passes g h → Passes g k
 passes-same-right s p = omega arith
-
-unfoldable pub passes-dec : (g h : Gate) → Dec (Passes g h)
-passes-dec g h = go (ℕ-discrete (suc (target g)) (slot h)) (ℕ-discrete (suc (target h)) (slot g))
-  where
-    go : Dec (suc (target g) ≡ slot h) → Dec (suc (target h) ≡ slot g) → Dec (Passes g h)
-    go (yes e) d = no (λ p. omega arith)
-    go (no a) (yes e) = no (λ p. omega arith)
-    go (no a) (no b) = yes (omega arith)
 
 -- a valid gate passes itself
 pub passes-self : {n : ℕ} {g : Gate} → Valid n g → Passes g g

@@ -12,11 +12,11 @@ use Rattle.gates.specs.declared.Gate.the-variants.{Not}
 use Rattle.gates.specs.Circuit.{Passes, Valid, AllValid, Rewrite, pass, merge, cancel, Step, step, Linked, done, forth, back, Reaches}
 use Rattle.gates.specs.Order.{_≼_}
 use Rattle.gates.specs.Reduced.{Reduced}
+use Rattle.gates.specs.Push.{push, pushes, Normal, normal-nil}
 use Rattle.gates.proofs.Sites.{Order, before, level, after, order, same-refl, same-sym, less-irrefl}
 use Rattle.gates.proofs.Merge.{merged-comm, merged-powered, merged-not, merged-same}
-use Rattle.gates.proofs.Push.{push}
-use Rattle.gates.proofs.Normal.{Normal, normal-nil, normal-push, commute}
-use Rattle.gates.proofs.Same.{pushes, again}
+use Rattle.gates.proofs.Normal.{normal-push, commute}
+use Rattle.gates.proofs.Same.{again}
 use Rattle.gates.proofs.Dictionary.{≼-antisym, Small, shorter, sorted, small-pushes}
 use Rattle.gates.proofs.Reach.{all-valid-left, all-valid-right, pushes-reach, reaches-all-valid}
 use Rattle.gates.proofs.Chains.{reaches-linked, linked-trans, linked-sym}

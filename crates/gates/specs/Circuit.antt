@@ -3,6 +3,7 @@
 use mathlib.Core.Logic.{_≢_}
 use mathlib.Core.List.{List, [], _∷_, _++_}
 use Prim.Native.Nat.{ℕ, zero, suc, _+_, _%_, _≤_, _<_}
+use native.Mathlib.Omega.{arith}
 use Rattle.gates.specs.declared.Gate.{Gate}
 use Rattle.gates.specs.declared.Gate.the-variants.{Not, Powered}
 use Rattle.gates.specs.Every.{Every}
@@ -39,6 +40,16 @@ AllValid n = Every (Valid n)
 pub record Passes (g h : Gate) : Type 0 where
   pub there : suc (target g) ≢ slot h
   pub back : suc (target h) ≢ slot g
+
+-- document 01, "Wrong turns": `cn 0 1` doesn't pass `cn 1 2`, though they share no target
+share-no-target : Passes (Powered 2 0 1) (Powered 2 1 2) → ⊥
+unfolding target slot
+share-no-target p = omega arith
+
+-- and `v 0 2` and `v 1 2` do pass, though they have one target
+share-one-target : Passes (Powered 1 0 2) (Powered 1 1 2)
+unfolding target slot
+share-one-target = omega arith
 
 -- one gate of this power, or none if the power is 0
 unfoldable pub powered : ℕ → ℕ → ℕ → List Gate

@@ -1,6 +1,6 @@
 -- The demands follow from what the jobs say. Assumes nothing.
 use mathlib.Core.Path.{_≡_, refl, sym, ap, _∙_, subst}
-use mathlib.Core.Bool.{Bool, true, false, cond}
+use mathlib.Core.Bool.{Bool, true, false}
 use mathlib.Core.List.{List, _++_}
 use Prim.Native.Nat.{ℕ, _≤_, _<_}
 use native.Mathlib.Omega.{arith}
@@ -9,33 +9,26 @@ use lib.Seq.{take-append-seam}
 use lib.Dec.{ltb}
 use borrow.Author.Tests.{ltb-true, ltb-false}
 use Rattle.gates.specs.declared.Gate.{Gate}
-use Rattle.gates.specs.Circuit.{AllValid, step, Linked, done, forth, back}
+use Rattle.gates.specs.Circuit.{AllValid, done}
 use Rattle.gates.specs.Reduced.{Reduced}
-use Rattle.cascades.specs.Cascade.{Controlled, Realises}
-use Rattle.gates.proofs.Theorem.{nf, reduced-unique, same-nf}
+use Rattle.gates.proofs.Theorem.{reduced-unique}
+use Rattle.gates.proofs.ReducedLists.{reduced-all-valid, linked-exactly-if}
 use Rattle.meaning.proofs.Links.{same-matrix-sym, reduced-matrix}
 use Rattle.cascades.proofs.Realises.{reduced-realises}
 use Rattle.text.specs.declared.Refusal.{Refusal}
 use Rattle.text.specs.declared.Head.{Head}
 use Rattle.text.specs.Refusals.{number-of}
 use Rattle.text.specs.declared.Refusal.the-variants.{ShortAnswer}
-use Rattle.text.specs.Text.{lines, circuit-text, cascade-text, AllProper}
+use Rattle.text.specs.Text.{circuit-text}
 use Rattle.text.specs.declared.Kind.{Kind}
 use Rattle.text.specs.declared.Kind.the-variants.{Cascade, Circuit}
 use Rattle.text.specs.Judging.{Judged, turned-away, accepted, judge}
 use Rattle.jobs.specs.Jobs.{Job, quoting, takes, Output, as-text, as-count, output, Entry, Exit, filled, left, refusal, judged, success, written, put-out, answered, Settled, Says}
-use Rattle.jobs.specs.Demands.{Gives, Listed, given, withheld, Ran, Meant, Demand2, Defined, Demand3}
-use Rattle.text.proofs.Accepted.{as-forms, Text, accepted-circuit, cascade-of, circuit-of}
-use Rattle.text.proofs.Written.{judge-written}
-use Rattle.text.proofs.Unambiguous.{cascade-text-is}
-use Rattle.jobs.proofs.One.{Passed, judged-accepted, passed-valid, is-nf}
-
--- ---- linked circuits
-
-linked-valid : (n : ℕ) {c d : List Gate} → Linked n c d → AllValid n c → AllValid n d
-linked-valid n done f = f
-linked-valid n (forth (step u v l f k) r) g = linked-valid n r k
-linked-valid n (back (step u v l f k) r) g = linked-valid n r f
+use Rattle.jobs.specs.Demands.{Gives, Listed, given, withheld, Ran, ShownCascade, ShownCircuit, Meant, Demand2, Demand3}
+use Rattle.text.proofs.Accepted.{Text, accepted-circuit, text-valid, cascade-of, circuit-of}
+use Rattle.text.proofs.Written.{gates-proper, judge-written}
+use Rattle.text.proofs.Unambiguous.{circuit-text-is, cascade-text-is}
+use Rattle.jobs.proofs.One.{Passed, judged-accepted, passed-valid}
 
 -- ---- an accepted text
 
@@ -54,9 +47,9 @@ pub record Facts (n : ℕ) (c r : List Gate) : Type 0 where
   pub least : 1 ≤ n
   pub largest : n ≤ 32
 
-facts : {k : Kind} {s : List ℕ} {records : ℕ} {h : Head} {c r : List Gate} → Passed k s records h c → Reduced (h .lines) c r → Facts (h .lines) c r
+pub facts : {k : Kind} {s : List ℕ} {records : ℕ} {h : Head} {c r : List Gate} → Passed k s records h c → Reduced (h .lines) c r → Facts (h .lines) c r
 facts {h = h} {c} p w = let s = w .fewest c done in let t = p .text .short in
-    record { fits = linked-valid (h .lines) (w .linked) (passed-valid p); short = omega arith; least = p .text .least; largest = p .text .largest }
+    record { fits = reduced-all-valid (h .lines) (passed-valid p) w; short = omega arith; least = p .text .least; largest = p .text .largest }
 
 pub data Wrote (e : Entry) (r : List Gate) (s : List ℕ) (x : Exit) : Type 0 where
   longer : length (e .area) < length s → x ≡ refusal ShortAnswer 0 e → Wrote e r s x
@@ -66,9 +59,9 @@ pub wrote : (e : Entry) (r : List Gate) (s : List ℕ) → Wrote e r s (written 
 unfolding written
 wrote e r s = go (ltb (length (e .area)) (length s)) refl
   where
-    go : (b : Bool) → ltb (length (e .area)) (length s) ≡ b → Wrote e r s (cond b (refusal ShortAnswer 0 e) (success e r (length s) (s ++ drop (length s) (e .area))))
-    go true q = longer (ltb-true _ _ q) refl
-    go false q = holds (ltb-false _ _ q) refl
+    go : (b : Bool) → ltb (length (e .area)) (length s) ≡ b → Wrote e r s (written e r s)
+    go true q = longer (ltb-true _ _ q) (rw q)
+    go false q = holds (ltb-false _ _ q) (rw q)
 
 -- a text at the front of the area, and gates at the front of the list
 pub area-front : (e : Entry) (r : List Gate) (s t : List ℕ) {x : Exit} → x ≡ success e r (length s) (s ++ t) → take (x .count) (x .area) ≡ s
@@ -82,9 +75,6 @@ pub refusal-is : (r : Refusal) (l : ℕ) (e : Entry) {x : Exit} → x ≡ refusa
 unfolding refusal
 refusal-is r l e q = (ap (λ (y : Exit). y .number) q, ap (λ (y : Exit). y .line) q, ap (λ (y : Exit). y .count) q, ap (λ (y : Exit). y .list) q, ap (λ (y : Exit). y .area) q)
 
-pub ten : number-of ShortAnswer ≡ 10
-ten = refl
-
 -- ---- the list that a job gives
 
 -- there is one at the most
@@ -96,7 +86,7 @@ gives-one as-count n x g k = sym g ∙ k
 -- it is the reduced list
 listed-text : (e : Entry) (n : ℕ) (c r : List Gate) (x : Exit) → Facts n c r → Reduced n c r → Wrote e r (circuit-text n r) x → Listed as-text n c x r
 unfolding Gives
-listed-text e n c r x f w (longer h q) = withheld (refusal-is ShortAnswer 0 e q .0 ∙ ten) w
+listed-text e n c r x f w (longer h q) = withheld (refusal-is ShortAnswer _ e q .0) w
 listed-text e n c r x f w (holds h q) = given (ap (λ (y : Exit). y .number) q)
     (ap (judge Circuit) (area-front e r (circuit-text n r) _ q) ∙ judge-written n r (f .fits) (f .least) (f .largest) (f .short))
 
@@ -108,7 +98,6 @@ listed-answer as-count e h c r x f w q = given (ap (λ (y : Exit). y .number) q)
 -- the circuit of a run, and what its job said of it
 record Answer {n : ℕ} {c r : List Gate} (a : Ran n c r) : Type 0 where
   text : Text (takes (a .job)) n (a .entry .text) c
-  valid : AllValid n c
   list : List Gate
   reduced : Reduced n c list
   is : a .exit ≡ answered (a .job) (a .entry) (a .head) list
@@ -121,7 +110,6 @@ answer {n} {c} a =
     let s = says-accepted (a .job) (a .entry) (a .exit) (a .says) (a .passed) in
     record {
       text = rw (a .lines) at (p .text);
-      valid = rw (a .lines) at (passed-valid p);
       list = s .0;
       reduced = subst (λ (m : ℕ). Reduced m c (s .0)) (a .lines) (s .1);
       is = s .2;
@@ -136,66 +124,56 @@ ran-reduced {n} {c} {r} a = go (a .listed) (answer a .listed)
     go (given z g) (withheld y w) = absurd (omega (arith, z, y))
     go (given z g) (given y k) = rw (gives-one (output (a .job)) n (a .exit) g k) (answer a .reduced)
 
--- ---- demand 3
-
-ran-nf : {n : ℕ} {c r : List Gate} → Ran n c r → r ≡ nf c
-ran-nf a = is-nf (answer a .valid) (ran-reduced a)
-
-quote-counts : (j : Job) (e : Entry) (h : Head) (r : List Gate) (x : Exit) → x ≡ answered j e h r → j ≡ quoting → x .count ≡ length r
-unfolding answered
-quote-counts j e h r x q i = ap (λ (y : Exit). y .count) (q ∙ ap (λ (k : Job). answered k e h r) i)
-
-ran-counted : {n : ℕ} {c r : List Gate} (a : Ran n c r) → a .job ≡ quoting → a .exit .count ≡ length r
-ran-counted {n} a i = let s = answer a in
-    quote-counts (a .job) (a .entry) (a .head) (s .list) (a .exit) (s .is) i ∙ ap length (reduced-unique n (s .reduced) (ran-reduced a))
-
-defined : {n : ℕ} {c r : List Gate} (a : Ran n c r) → Defined a
-defined a = let w = ran-reduced a in record { reduced = w; linked = w .linked; fewest = w .fewest; counted = ran-counted a }
-
-pub demand-3 : {n : ℕ} {c d r s : List Gate} (a : Ran n c r) (b : Ran n d s) → Demand3 a b
-demand-3 {n} {c} {d} {r} {s} a b =
-    let k = same-nf n c d (answer a .valid) (answer b .valid) in
-    record {
-      same = (λ e. k .1 (sym (ran-nf a) ∙ e ∙ ran-nf b), λ l. ran-nf a ∙ k .0 l ∙ sym (ran-nf b));
-      first = defined a;
-      second = defined b;
-    }
-
 -- each run on a text that rules 1 to 9 let pass has exactly one list
 pub listed-one : (j : Job) (e : Entry) (x : Exit) {h : Head} {c : List Gate} → Says j e x → judged (takes j) e ≡ accepted h c → (r : List Gate) × Listed (output j) (h .lines) c x r × ((s : List Gate) → Listed (output j) (h .lines) c x s → s ≡ r)
 unfolding answered
 listed-one j e x {h} {c} s q =
     let y = says-accepted j e x s q in
-    let l = listed-answer (output j) e h c (y .0) x (facts (judged-accepted (takes j) e q) (y .1)) (y .1) (y .2) in
-    (y .0, l, λ t k. ran-nf (run t k) ∙ sym (ran-nf (run (y .0) l)))
+    (y .0, listed-answer (output j) e h c (y .0) x (facts (judged-accepted (takes j) e q) (y .1)) (y .1) (y .2), λ t k. reduced-unique (h .lines) (ran-reduced (run t k)) (y .1))
   where
     run : (r : List Gate) → Listed (output j) (h .lines) c x r → Ran (h .lines) c r
     run r l = record { job = j; entry = e; exit = x; head = h; says = s; passed = q; lines = refl; listed = l }
 
+-- ---- demand 3
+
+pub demand-3 : {n : ℕ} {c d r s : List Gate} (a : Ran n c r) (b : Ran n d s) → Demand3 a b
+demand-3 {n} a b = let k = linked-exactly-if n (ran-reduced a) (ran-reduced b) in
+    record { same = (k .1, k .0); first = ran-reduced a; second = ran-reduced b }
+
 -- ---- demand 2
 
-meant-cascade : {n : ℕ} {s : List ℕ} {c r : List Gate} → Text Cascade n s c → Reduced n c r → (gs : List Controlled) × (s ≡ cascade-text n gs) × Realises n gs r
-meant-cascade {n} {s} {c} {r} t w =
+shown-cascade : {n : ℕ} {s : List ℕ} {c r : List Gate} → Text Cascade n s c → Reduced n c r → ShownCascade n s c r
+shown-cascade {n} {s} {c} {r} t w =
     let k = cascade-of t in
-    (k .mcts, k .written, reduced-realises n (k .mcts) (k .ready) (subst (λ (d : List Gate). Reduced n d r) (k .expanded) w))
+    let b = t .largest in
+    record {
+      cascade = k .mcts;
+      shown = k .written;
+      only = λ m gs p e. cascade-text-is n m (k .mcts) gs (omega arith, k .proper) p (sym (k .written) ∙ e);
+      expanded = k .expanded;
+      realised = reduced-realises n (k .mcts) (k .ready) (subst (λ (d : List Gate). Reduced n d r) (k .expanded) w);
+    }
 
-meant : (k : Kind) {n : ℕ} {s : List ℕ} {c r : List Gate} → Text k n s c → Reduced n c r → Meant k n s r
+shown-circuit : {n : ℕ} {s : List ℕ} {c : List Gate} → Text Circuit n s c → ShownCircuit n s c
+shown-circuit {n} {s} {c} t =
+    let b = t .largest in
+    record { shown = circuit-of t; only = λ m d p e. circuit-text-is n m c d (omega arith, gates-proper n c b (text-valid t)) p (sym (circuit-of t) ∙ e) }
+
+meant : (k : Kind) {n : ℕ} {s : List ℕ} {c r : List Gate} → Text k n s c → Reduced n c r → Meant k n s c r
 unfolding Meant
-meant Cascade t w = meant-cascade t w
-meant Circuit {n} {s} {c} {r} t w = (c, circuit-of t, same-matrix-sym n c r (reduced-matrix n w))
+meant Cascade t w = shown-cascade t w
+meant Circuit t w = shown-circuit t
+
+quote-counts : (j : Job) (e : Entry) (h : Head) (r : List Gate) (x : Exit) → x ≡ answered j e h r → j ≡ quoting → x .count ≡ length r
+unfolding answered
+quote-counts j e h r x q i = ap (λ (y : Exit). y .count) (q ∙ ap (λ (k : Job). answered k e h r) i)
 
 pub demand-2 : {n : ℕ} {c r : List Gate} (a : Ran n c r) → Demand2 a
 demand-2 {n} {c} {r} a =
     let w = ran-reduced a in
-    record { meant = meant (takes (a .job)) (answer a .text) w; matrix = same-matrix-sym n c r (reduced-matrix n w); counted = ran-counted a }
-
--- ---- whichever cascade a text shows, it is this one
-
--- from a text that shows the cascade gs, the list does what gs does
-pub demand-2-any : {n : ℕ} {c r : List Gate} (a : Ran n c r) → takes (a .job) ≡ Cascade → (gs : List Controlled) → AllProper (as-forms gs) → a .entry .text ≡ cascade-text n gs → Realises n gs r
-unfolding meant-cascade
-demand-2-any {n} {c} {r} a h gs p e =
-    let t : Text Cascade n (a .entry .text) c = subst (λ (k : Kind). Text k n (a .entry .text) c) h (answer a .text) in
-    let k = cascade-of t in
-    let l = t .largest in
-    subst (λ (hs : List Controlled). Realises n hs r) (cascade-text-is n n (k .mcts) gs (omega arith) (omega arith) (k .proper) p (sym (k .written) ∙ e) .1) (meant-cascade t (ran-reduced a) .2)
+    let s = answer a in
+    record {
+      meant = meant (takes (a .job)) (s .text) w;
+      matrix = same-matrix-sym n c r (reduced-matrix n w);
+      counted = λ i. quote-counts (a .job) (a .entry) (a .head) (s .list) (a .exit) (s .is) i ∙ ap length (reduced-unique n (s .reduced) w);
+    }

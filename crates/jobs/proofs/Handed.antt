@@ -14,7 +14,7 @@ use Rattle.gates.specs.Code.{gates}
 use Rattle.gates.proofs.CodeLists.{length-gates, all-codes-take}
 use Rattle.records.specs.declared.Done.{Done}
 use Rattle.records.specs.Records.{finished, Fits}
-use Rattle.records.proofs.Shape_tla.{Leads}
+use Rattle.records.proofs.Walk_text_list_area.{Leads}
 use Rattle.text.specs.declared.Refusal.{Refusal}
 use Rattle.text.specs.declared.Refusal.the-variants.{ShortAnswer}
 use Rattle.text.specs.declared.Head.{Head}
@@ -26,10 +26,11 @@ use Rattle.loading.specs.declared.Verdict.{Verdict}
 use Rattle.loading.specs.declared.Loaded.{Loaded}
 use Rattle.loading.specs.declared.Loaded.the-variants as loaded
 use Rattle.loading.specs.Seen.{seen-verdict}
-use Rattle.loading.specs.Loaded.{Holds, LoadsTo}
+use Rattle.loading.specs.Loaded.{LoadsTo}
+use Rattle.reduction.specs.Reducing.{ReducedTo}
 use Rattle.jobs.specs.Jobs.{Job, quoting, takes, as-text, as-count, output, writes, Exit, left, filled, refusal, judged, judged-text, size-rules, success, written, answered, Settled, Says}
-use Rattle.jobs.proofs.One.{text-passed}
-use Rattle.jobs.specs.Handing.{exit-of, Said, Hands, refused, succeeded, text-of, written-done, written-area, text-done, text-area, count-done, Writable, Answerable}
+use Rattle.jobs.proofs.One.{text-passed, passed-valid}
+use Rattle.jobs.specs.Handing.{exit-of, Said, Hands, AcceptsReduced, LoadsReduced, refused, succeeded, text-of, written-done, written-area, text-done, text-area, count-done, Renderable, Answerable}
 
 -- ---- the records
 
@@ -92,7 +93,7 @@ refused-hands j s a codes room i r q = record { fits = refused-fits r i room cod
 -- ---- success
 
 -- of a text that was loaded into the codes
-module _ (j : Job) (s a codes : List ℕ) (room : ℕ) (h : Head) (m : ℕ) (all : length codes ≡ 4162) (w : Holds (judged-text (takes j) s room) codes h m) where
+module _ (j : Job) (s a codes : List ℕ) (room : ℕ) (h : Head) (m : ℕ) (all : length codes ≡ 4096) (w : AcceptsReduced (judged-text (takes j) s room) codes h m) where
   -- whatever leads to the answer by the loaded list
   answers : (d : Done) (b : List ℕ) → Fits d room → ((l : List Gate) → length l ≡ room → exit-of (d .outcome) (finished d l) b ≡ answered j (record { text = s; list = l; area = a }) h (gates (take m codes))) → Hands j s room a d b
   unfolding Settled
@@ -100,7 +101,7 @@ module _ (j : Job) (s a codes : List ℕ) (room : ℕ) (h : Head) (m : ℕ) (all
 
   succeeded-fits : (count : ℕ) → Fits (succeeded m count room codes) room
   unfolding succeeded
-  succeeded-fits count = record { there = w .few; valid = w .codes; few = omega (arith, text-passed (takes j) s room (w .judged) .room, w .few); within = omega arith }
+  succeeded-fits count = record { there = w .few; valid = w .valid; few = omega (arith, text-passed (takes j) s room (w .judged) .room, w .few); within = omega arith }
 
   -- what is handed over with success leads to its exit
   succeeded-exit : (n count : ℕ) (b : List ℕ) (l : List Gate) → length l ≡ room → count ≡ n → exit-of (succeeded m count room codes .outcome) (finished (succeeded m count room codes) l) b ≡ success (record { text = s; list = l; area = a }) (gates (take m codes)) n b
@@ -124,14 +125,26 @@ module _ (j : Job) (s a codes : List ℕ) (room : ℕ) (h : Head) (m : ℕ) (all
       go false q = answers (succeeded m (length (text-of h m codes)) room codes) (text-of h m codes ++ drop (length (text-of h m codes)) a) (succeeded-fits (length (text-of h m codes)))
           (λ l e. rw (i, q) (succeeded-exit (length (text-of h m codes)) (length (text-of h m codes)) _ l e refl))
 
--- ---- by what the text was loaded as
+-- ---- a text that was loaded, and its circuit reduced
 
-pub answerable : (j : Judged) (codes : List ℕ) (x : Loaded) → LoadsTo j codes x → Answerable x codes
-answerable j codes (loaded.Accepted h m) w = record { narrow = w .narrow; few = w .few; valid = w .codes }
+pub reduces : (k : Kind) (s : List ℕ) (room : ℕ) {codes codes′ : List ℕ} {h : Head} {m r : ℕ} → LoadsTo (judged-text k s room) codes (loaded.Accepted h m) → ReducedTo codes m r codes′ → AcceptsReduced (judged-text k s room) codes′ h r
+reduces k s room {codes} {h = h} {m} w x = record {
+  circuit = gates (take m codes);
+  judged = w .judged;
+  reduced = x .reduced (h .lines) (passed-valid (text-passed k s room (w .judged)));
+  valid = x .codes;
+  few = omega (arith, w .few, x .within);
+  narrow = w .narrow;
+}
+
+-- ---- by the reduced list, or the refusal
+
+pub answerable : (j : Judged) (codes : List ℕ) (x : Loaded) → LoadsReduced j codes x → Answerable x codes
+answerable j codes (loaded.Accepted h m) w = record { narrow = w .narrow; few = w .few; valid = w .valid }
 answerable j codes (loaded.Refused r l) w = tt
 
 -- fewer of the codes can be written too
-pub fewer : {h : Head} {m k : ℕ} {codes : List ℕ} → k ≤ m → Writable h m codes → Writable h k codes
+pub fewer : {h : Head} {m k : ℕ} {codes : List ℕ} → k ≤ m → Renderable h m codes → Renderable h k codes
 fewer {m = m} {k} {codes} l w = record { narrow = w .narrow; few = omega (arith, w .few); valid = rw (← take-take k m codes l) (all-codes-take 32 k (take m codes) (w .valid)) }
 
 -- the job that answers a text of this kind with a circuit text takes such a text, and puts out a text
@@ -144,14 +157,14 @@ output-writes : (k : Kind) → output (writes k) ≡ as-text
 output-writes Cascade = refl
 output-writes Circuit = refl
 
-pub text-hands : (k : Kind) (s a codes : List ℕ) (room : ℕ) (x : Loaded) → length codes ≡ 4162 → LoadsTo (judged-text k s room) codes x → Hands (writes k) s room a (text-done x room codes a) (text-area x codes a)
+pub text-hands : (k : Kind) (s a codes : List ℕ) (room : ℕ) (x : Loaded) → length codes ≡ 4096 → LoadsReduced (judged-text k s room) codes x → Hands (writes k) s room a (text-done x room codes a) (text-area x codes a)
 text-hands k s a codes room x e w = go x (rw (← takes-writes k) at w)
   where
-    go : (x : Loaded) → LoadsTo (judged-text (takes (writes k)) s room) codes x → Hands (writes k) s room a (text-done x room codes a) (text-area x codes a)
+    go : (x : Loaded) → LoadsReduced (judged-text (takes (writes k)) s room) codes x → Hands (writes k) s room a (text-done x room codes a) (text-area x codes a)
     go (loaded.Accepted h m) v = written-hands (writes k) s a codes room h m e v (output-writes k)
     go (loaded.Refused r l) v = refused-hands (writes k) s a codes room l r v
 
-pub count-hands : (s codes : List ℕ) (room : ℕ) (x : Loaded) → length codes ≡ 4162 → LoadsTo (judged-text (takes quoting) s room) codes x → Hands quoting s room [] (count-done x room codes) []
+pub count-hands : (s codes : List ℕ) (room : ℕ) (x : Loaded) → length codes ≡ 4096 → LoadsReduced (judged-text (takes quoting) s room) codes x → Hands quoting s room [] (count-done x room codes) []
 count-hands s codes room (loaded.Accepted h m) e w = quoted-hands quoting s [] codes room h m e w refl
 count-hands s codes room (loaded.Refused r l) e w = refused-hands quoting s [] codes room l r w
 

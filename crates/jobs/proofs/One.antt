@@ -9,7 +9,8 @@ use borrow.Author.Tests.{ltb-false}
 use Rattle.gates.specs.declared.Gate.{Gate}
 use Rattle.gates.specs.Circuit.{AllValid}
 use Rattle.gates.specs.Reduced.{Reduced}
-use Rattle.gates.proofs.Theorem.{nf, nf-reduced, reduced-unique}
+use Rattle.gates.proofs.Theorem.{nf, reduced-unique}
+use Rattle.gates.proofs.ReducedLists.{one-reduced-list, reduced-is-nf}
 use Rattle.text.specs.declared.Head.{Head}
 use Rattle.text.specs.declared.Refusal.the-variants.{Overlong, ShortList}
 use Rattle.text.specs.declared.Kind.{Kind}
@@ -25,12 +26,12 @@ pub record Passed (k : Kind) (s : List ℕ) (records : ℕ) (h : Head) (c : List
 
 pub text-passed : (k : Kind) (s : List ℕ) (records : ℕ) {h : Head} {c : List Gate} → judged-text k s records ≡ accepted h c → Passed k s records h c
 unfolding judged-text size-rules first or-else
-text-passed k s records {h} {c} q = go (ltb 60000 (length s)) refl (ltb records 4096) refl q
+text-passed k s records {h} {c} q = go _ (ltb 60000 (length s)) refl (ltb records 4096) refl q
   where
-    go : (a : Bool) → ltb 60000 (length s) ≡ a → (b : Bool) → ltb records 4096 ≡ b → or-else (first (rule Overlong a ∷ rule ShortList b ∷ [])) 0 (judge k s) ≡ accepted h c → Passed k s records h c
-    go true p b r z = absurd (away-accepted z)
-    go false p true r z = absurd (away-accepted z)
-    go false p false r z = record { small = ltb-false 60000 (length s) p; room = ltb-false records 4096 r; text = judge-accepted k s z }
+    go : (l : ℕ) (a : Bool) → ltb 60000 (length s) ≡ a → (b : Bool) → ltb records 4096 ≡ b → or-else (first (rule Overlong a ∷ rule ShortList b ∷ [])) l (judge k s) ≡ accepted h c → Passed k s records h c
+    go l true p b r z = absurd (away-accepted z)
+    go l false p true r z = absurd (away-accepted z)
+    go l false p false r z = record { small = ltb-false 60000 (length s) p; room = ltb-false records 4096 r; text = judge-accepted k s z }
 
 pub judged-accepted : (k : Kind) (e : Entry) {h : Head} {c : List Gate} → judged k e ≡ accepted h c → Passed k (e .text) (length (e .list)) h c
 unfolding judged
@@ -46,12 +47,9 @@ accepted-one {h} {g} {c} {d} {r} {s} q v w = reduced-unique (h .lines) v
 
 -- and that is the normal form
 pub is-nf : {n : ℕ} {c r : List Gate} → AllValid n c → Reduced n c r → r ≡ nf c
-is-nf {n} {c} v w = reduced-unique n w (nf-reduced n c v)
+is-nf {n} {c} {r} v w = sym (reduced-is-nf n c r v .0 w)
 
 -- ---- the one exit
-
-pub answered-nf : (j : Job) (e : Entry) {h : Head} {c r : List Gate} {x : Exit} → judged (takes j) e ≡ accepted h c → Reduced (h .lines) c r → x ≡ answered j e h r → x ≡ answered j e h (nf c)
-answered-nf j e {h} q w i = i ∙ ap (answered j e h) (is-nf (passed-valid (judged-accepted (takes j) e q)) w)
 
 unfoldable pub Only : Job → Entry → Judged → Type 0
 Only j e d = (x : Exit) × Settled j e d x × ((y : Exit) → Settled j e d y → y ≡ x)
@@ -59,7 +57,9 @@ Only j e d = (x : Exit) × Settled j e d x × ((y : Exit) → Settled j e d y �
 only : (j : Job) (e : Entry) (d : Judged) → judged (takes j) e ≡ d → Only j e d
 unfolding Only Settled
 only j e (turned-away r l) q = (refusal r l e, refl, λ y h. h)
-only j e (accepted h c) q = (answered j e h (nf c), (nf c, nf-reduced (h .lines) c (passed-valid (judged-accepted (takes j) e q)), refl), λ y z. answered-nf j e q (z .1) (z .2))
+only j e (accepted h c) q =
+    let y = one-reduced-list (h .lines) c (passed-valid (judged-accepted (takes j) e q)) in
+    (answered j e h (y .0), (y .0, y .1, refl), λ x z. z .2 ∙ ap (answered j e h) (sym (y .2 (z .0) (z .1))))
 
 -- the contract binds completely
 pub says-one : (j : Job) (e : Entry) → (x : Exit) × Says j e x × ((y : Exit) → Says j e y → y ≡ x)

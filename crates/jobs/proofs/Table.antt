@@ -6,17 +6,17 @@ use Prim.Native.Nat.{ℕ, _≤_}
 use native.Mathlib.Decide.{ℕ-discrete, decLt}
 use lib.ListN.{length, take, drop}
 use lib.Dec.{ltb, eqb}
-use borrow.Author.Tests.{le-ltb, eqb-true, not-true}
+use borrow.Author.Tests.{le-ltb, ltb-false, eqb-true, not-true}
+use Rattle.gates.specs.Every.{Every}
 use Rattle.gates.specs.declared.Gate.{Gate}
+use Rattle.gates.specs.Reduced.{Reduced}
 use Rattle.gates.specs.Circuit as C
 use Rattle.gates.specs.Circuit.{slot, power, powered}
 use Rattle.meaning.specs.Pattern.{has}
 use Rattle.gates.specs.Inverse.{inverse, inverted}
 use Rattle.cascades.specs.Expansion.{spare, _⨾_, joined, expand, expansion}
 use Rattle.meaning.proofs.Flips.{both}
-use Rattle.gates.proofs.Sites.{order-targets-equal, order-targets, order, passes-dec}
-use Rattle.gates.proofs.Merge.{merged}
-use Rattle.gates.proofs.Push.{free-dec, turn-of, turn, place, push}
+use Rattle.gates.specs.Push.{merged, passes-dec, same-dec, less-dec, free-dec, turn-of, turn, place, push}
 use Rattle.gates.proofs.Theorem.{nf}
 use Rattle.text.specs.declared.Head.{Head}
 use Rattle.text.specs.Refusals.{number-of}
@@ -26,15 +26,19 @@ use Rattle.text.specs.Reading.{strip, second, num, tail, pair, list, many, line
 use Rattle.text.specs.Judging as J
 use Rattle.text.specs.declared.Kind.{Kind}
 use Rattle.text.specs.Judging.{Judged, turned-away, accepted, belongs, most, any-from, rising, first, head-rules, rules, or-else, judge-lines, judge-text, read-all, judge}
-use Rattle.jobs.specs.Jobs.{Job, takes, Output, as-text, as-count, output, Entry, Exit, refusal, judged, judged-text, size-rules, written, put-out, answered, Says}
-use Rattle.jobs.specs.Examples.{typed, Answer, text, gates, away, Row, gives, expands, Shows, room, Holds, All, table}
-use Rattle.jobs.proofs.One.{answered-nf}
+use Rattle.jobs.specs.Jobs.{Job, takes, Output, as-text, as-count, output, Entry, Exit, refusal, judged, written, put-out, answered, Says}
+use Rattle.jobs.specs.Examples.{typed, Answer, text, gates, away, Row, gives, expands, Shows, room, Correct, table}
+use Rattle.jobs.proofs.One.{judged-accepted, passed-valid, is-nf}
 use Rattle.jobs.proofs.Demands.{says-accepted, says-turned-away, area-front}
+use Rattle.jobs.proofs.Numbers.{judged-sized}
 
 -- rules 1 and 2 let a short text and a long list pass
-judged-is : (k : Kind) (e : Entry) (s : List ℕ) → e .text ≡ s → ltb 60000 (length s) ≡ false → 4096 ≤ length (e .list) → judged k e ≡ judge k s
-unfolding judged judged-text size-rules first or-else
-judged-is k e s q h l = rw (q, h, le-ltb (length (e .list)) 4096 l)
+judged-is : (k : Kind) (e : Entry) (s : List ℕ) → e .text ≡ s → length s ≤ 60000 → 4096 ≤ length (e .list) → judged k e ≡ judge k s
+judged-is k e s q h l = judged-sized k e (record { small = rw q h; room = l }) ∙ ap (judge k) q
+
+-- the answer is computed from the normal form
+answered-nf : (j : Job) (e : Entry) {h : Head} {c r : List Gate} {x : Exit} → judged (takes j) e ≡ accepted h c → Reduced (h .lines) c r → x ≡ answered j e h r → x ≡ answered j e h (nf c)
+answered-nf j e {h} q w i = i ∙ ap (answered j e h) (is-nf (passed-valid (judged-accepted (takes j) e q)) w)
 
 text-shown : (e : Entry) (x : Exit) (r : List Gate) (s : List ℕ) → length s ≤ length (e .area) → x ≡ written e r s → (x .number ≡ 0) × (take (x .count) (x .area) ≡ s)
 unfolding written
@@ -98,22 +102,22 @@ fits-shown j e x (turned-away r l) (away k i) p m y t =
     let u = both (eqb (number-of r) k) (eqb l i) t in
     (ap (λ (w : Exit). w .number) z ∙ eqb-true (number-of r) k (u .0), ap (λ (w : Exit). w .line) z ∙ eqb-true l i (u .1))
 
-test-holds : (r : Row) → test r ≡ true → Holds r
-unfolding test Holds
-test-holds (gives j ls a) t = λ e x q l m y.
+test-correct : (r : Row) → test r ≡ true → Correct r
+unfolding test Correct
+test-correct (gives j ls a) t = λ e x q l m y.
     let u = both (not (ltb 60000 (length (typed ls)))) (fits j (judge (takes j) (typed ls)) a) t in
-    fits-shown j e x (judge (takes j) (typed ls)) a (judged-is (takes j) e (typed ls) q (not-true (ltb 60000 (length (typed ls))) (u .0)) l) m y (u .1)
-test-holds (expands n cs t s m) h = let u = both (eqb (spare n 0 (t ∷ cs)) s) (eqb (length (expansion n cs t)) m) h in (eqb-true (spare n 0 (t ∷ cs)) s (u .0), eqb-true (length (expansion n cs t)) m (u .1))
+    fits-shown j e x (judge (takes j) (typed ls)) a (judged-is (takes j) e (typed ls) q (ltb-false 60000 (length (typed ls)) (not-true (ltb 60000 (length (typed ls))) (u .0))) l) m y (u .1)
+test-correct (expands n cs t s m) h = let u = both (eqb (spare n 0 (t ∷ cs)) s) (eqb (length (expansion n cs t)) m) h in (eqb-true (spare n 0 (t ∷ cs)) s (u .0), eqb-true (length (expansion n cs t)) m (u .1))
 
-tests-hold : (rs : List Row) → tests rs ≡ true → All rs
-unfolding tests All
-tests-hold [] t = tt
-tests-hold (r ∷ rs) t = let u = both (test r) (tests rs) t in (test-holds r (u .0), tests-hold rs (u .1))
+tests-correct : (rs : List Row) → tests rs ≡ true → Every Correct rs
+unfolding tests
+tests-correct [] t = tt
+tests-correct (r ∷ rs) t = let u = both (test r) (tests rs) t in (test-correct r (u .0), tests-correct rs (u .1))
 
 pass : tests table ≡ true
-unfolding answers fits test tests typed takes has inverse inverted spare _⨾_ joined expand expansion strip second num tail pair R.control R.controls list many lines-body not-body mct-body powered-body parse whole read longer cut J.controls J.target J.gates belongs most any-from rising first head-rules rules or-else judge-lines judge-text read-all judge C.target slot power powered order-targets-equal order-targets order passes-dec merged free-dec turn-of turn place push nf ℕ-discrete decLt digits spaced one two word render rendered circuit-text
+unfolding answers fits test tests typed takes has inverse inverted spare _⨾_ joined expand expansion strip second num tail pair R.control R.controls list many lines-body not-body mct-body powered-body parse whole read longer cut J.controls J.target J.gates belongs most any-from rising first head-rules rules or-else judge-lines judge-text read-all judge C.target slot power powered same-dec less-dec passes-dec merged free-dec turn-of turn place push nf ℕ-discrete decLt digits spaced one two word render rendered circuit-text
 pass = refl
 
 -- document 01's starred examples
-pub examples : All table
-examples = tests-hold table pass
+pub examples : Every Correct table
+examples = tests-correct table pass

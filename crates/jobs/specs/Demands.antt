@@ -1,19 +1,19 @@
 -- The three demands, as statements about what the jobs say. Assumes nothing.
-use Prim.Native.Nat.{ℕ, _≤_, _<_}
+use Prim.Native.Nat.{ℕ, _-_, _≤_, _<_}
 use mathlib.Core.Path.{_≡_}
-use mathlib.Core.Logic.{_↔_, _≢_}
-use mathlib.Core.List.{List}
-use lib.ListN.{length, take, replicate}
+use mathlib.Core.Logic.{_↔_}
+use mathlib.Core.List.{List, [], _∷_, map}
+use lib.ListN.{length, take, drop, replicate}
 use Rattle.gates.specs.declared.Gate.{Gate}
 use Rattle.gates.specs.declared.Gate.the-variants.{Not}
 use Rattle.gates.specs.Circuit.{Linked}
 use Rattle.gates.specs.Reduced.{Reduced}
 use Rattle.meaning.specs.State.{SameMatrix}
-use Rattle.cascades.specs.Cascade.{Controlled, Realises}
+use Rattle.cascades.specs.Cascade.{Controlled, expand-all, Realises}
 use Rattle.text.specs.declared.Refusal.{Refusal}
 use Rattle.text.specs.declared.Head.{Head}
 use Rattle.text.specs.Refusals.{number-of}
-use Rattle.text.specs.Text.{cascade-text, circuit-text}
+use Rattle.text.specs.Text.{lines, gate, as-forms, AllProper, cascade-text, circuit-text}
 use Rattle.text.specs.declared.Kind.{Kind}
 use Rattle.text.specs.declared.Kind.the-variants.{Cascade, Circuit}
 use Rattle.text.specs.Judging.{accepted, turned-away, judge}
@@ -27,7 +27,8 @@ unfoldable pub Gives : Output → ℕ → Exit → List Gate → Type 0
 Gives as-text n x r = judge Circuit (take (x .count) (x .area)) ≡ accepted (record { lines = n }) r
 Gives as-count n x r = take (x .count) (x .list) ≡ r
 
--- of an accepted text, the list given; "For a text that only rule 10 refuses, the reduced list that these definitions give its circuit"
+-- of an accepted text, the list given; "For a text that only rule 10 refuses, the same holds of the reduced list that these definitions give
+-- its circuit"
 pub data Listed (o : Output) (n : ℕ) (c : List Gate) (x : Exit) (r : List Gate) : Type 0 where
   given : x .number ≡ 0 → Gives o n x r → Listed o n c x r
   withheld : x .number ≡ 10 → Reduced n c r → Listed o n c x r
@@ -45,43 +46,90 @@ pub record Ran (n : ℕ) (c r : List Gate) : Type 0 where
 
 -- ---- demand 1: every call answers, and the numbers are the table's
 
-abbrev pub IsText : Output → Type 0
-IsText as-text = Unit {0}
-IsText as-count = ⊥
+-- the text and the gate list that rules 1 and 2 let pass
+pub record Sized (e : Entry) : Type 0 where
+  pub small : length (e .text) ≤ 60000
+  pub room : 4096 ≤ length (e .list)
 
--- map and reduce write a text
-unfoldable pub Writes : Job → Type 0
-Writes j = IsText (output j)
+-- the text that rules 1 to 9 let pass: its head, and "the reduced list of the circuit read or expanded"
+pub record Yields (j : Job) (e : Entry) (h : Head) (r : List Gate) : Type 0 where
+  pub sized : Sized e
+  pub circuit : List Gate
+  pub passed : judge (takes j) (e .text) ≡ accepted h circuit
+  pub reduced : Reduced (h .lines) circuit r
 
--- "map or reduce: answer text longer than its area"
-unfoldable pub TooLong : Job → Entry → Type 0
-TooLong j e = Writes j × ((h : Head) × (c : List Gate) × (r : List Gate) × (judged (takes j) e ≡ accepted h c) × Reduced (h .lines) c r × (length (e .area) < length (circuit-text (h .lines) r)))
+-- the table of numbers, "Given exactly if", each with its line
+pub data Due (j : Job) (e : Entry) : ℕ → ℕ → Type 0 where
+  -- "text over 60,000 bytes": "Rule 1 comes first, then 2, both with line 0"
+  overlong : 60000 < length (e .text) → Due j e 1 0
+  -- "gate list under 4,096 records"
+  short-list : length (e .text) ≤ 60000 → length (e .list) < 4096 → Due j e 2 0
+  -- "Then the lines in order, each whole line tried against 3 to 9 in that order; the first failing line, counted from 1, is returned"
+  failing-line : (r : Refusal) (l : ℕ) → Sized e → judge (takes j) (e .text) ≡ turned-away r l → 3 ≤ number-of r → number-of r ≤ 9 → 1 ≤ l → Due j e (number-of r) l
+  -- "map or reduce: answer text longer than its area": "Then 10, line 0"
+  short-answer : (h : Head) (r : List Gate) → Yields j e h r → output j ≡ as-text → length (e .area) < length (circuit-text (h .lines) r) → Due j e 10 0
+  -- success: "Number 0, line 0"
+  no-refusal : (h : Head) (r : List Gate) → Yields j e h r → (output j ≡ as-text → length (circuit-text (h .lines) r) ≤ length (e .area)) → Due j e 0 0
+
+-- what a refusal leaves
+pub record RefusalLeaves (e : Entry) (x : Exit) : Type 0 where
+  -- "A refusal returns its number, its line and count 0"
+  pub countless : x .count ≡ 0
+  -- "It leaves the answer area unchanged"
+  pub unchanged : x .area ≡ e .area
+  -- "Numbers 1 and 2 leave the gate list unchanged; the others leave `not 0` in every record"
+  pub early : x .number ≤ 2 → x .list ≡ e .list
+  pub late : 3 ≤ x .number → x .list ≡ replicate (length (e .list)) (Not 0)
+
+-- what success leaves, with the reduced list r below the head h
+pub record SuccessLeaves (j : Job) (e : Entry) (x : Exit) (h : Head) (r : List Gate) : Type 0 where
+  -- "On success the gate list holds first the reduced list of the circuit read or expanded, and `not 0` in every later record"
+  pub list-first : take (length r) (x .list) ≡ r
+  pub list-later : drop (length r) (x .list) ≡ replicate (length (e .list) - length r) (Not 0)
+  -- "The answer area holds that list as a circuit text, with the n of the text read, at its front, its other bytes unchanged"
+  pub area-text : output j ≡ as-text → take (x .count) (x .area) ≡ circuit-text (h .lines) r
+  pub area-others : output j ≡ as-text → drop (x .count) (x .area) ≡ drop (x .count) (e .area)
+  -- "and a count come back: bytes written for map and reduce, gates for quote"
+  pub bytes-written : output j ≡ as-text → x .count ≡ length (circuit-text (h .lines) r)
+  pub gates-quoted : output j ≡ as-count → x .count ≡ length r
+  -- "map and reduce also get an answer area": quote writes none
+  pub area-kept : output j ≡ as-count → x .area ≡ e .area
 
 pub record Demand1 (j : Job) (e : Entry) (x : Exit) : Type 0 where
-  -- rules 1 to 9 give their number and line
-  pub refused : (r : Refusal) (l : ℕ) → judged (takes j) e ≡ turned-away r l → (x .number ≡ number-of r) × (x .line ≡ l) × (1 ≤ x .number) × (x .number ≤ 9)
-  -- number 10 is given exactly if the text of the reduced list is longer than its area
-  pub short : (x .number ≡ 10) ↔ TooLong j e
-  -- any other number but 0 is that of rules 1 to 9
-  pub others : x .number ≢ 0 → x .number ≢ 10 → (r : Refusal) × (l : ℕ) × (judged (takes j) e ≡ turned-away r l)
-  -- a refusal's count is 0 and it leaves the answer area unchanged
-  pub unchanged : x .number ≢ 0 → (x .count ≡ 0) × (x .area ≡ e .area)
-  -- 1 and 2 leave the gate list unchanged, the others leave `not 0` in every record
-  pub early : 1 ≤ x .number → x .number ≤ 2 → x .list ≡ e .list
-  pub late : 3 ≤ x .number → x .list ≡ replicate (length (e .list)) (Not 0)
-  -- success has line 0
-  pub lineless : x .number ≡ 0 → x .line ≡ 0
+  -- a number is given, with its line, exactly if the table says so
+  pub by-table : (n l : ℕ) → ((x .number ≡ n) × (x .line ≡ l)) ↔ Due j e n l
+  -- "an empty text gives line 1"
+  pub empty : Sized e → e .text ≡ [] → (x .number ≡ 3) × (x .line ≡ 1)
+  pub refusal-leaves : 1 ≤ x .number → RefusalLeaves e x
+  pub success-leaves : x .number ≡ 0 → (h : Head) × (r : List Gate) × Yields j e h r × SuccessLeaves j e x h r
+  -- as many records and bytes as were lent
   pub lengths : (length (x .list) ≡ length (e .list)) × (length (x .area) ≡ length (e .area))
 
 -- ---- demand 2: the list does what the cascade does, from every pattern
 
--- the text of map and quote shows a cascade, which the list realises; that of reduce shows a circuit, whose matrix the list has
-unfoldable pub Meant : Kind → ℕ → List ℕ → List Gate → Type 0
-Meant Cascade n s r = (gs : List Controlled) × (s ≡ cascade-text n gs) × Realises n gs r
-Meant Circuit n s r = (c : List Gate) × (s ≡ circuit-text n c) × SameMatrix n r c
+-- the cascade that a text shows, on n lines; the circuit c and the list r of a run on the text
+pub record ShownCascade (n : ℕ) (s : List ℕ) (c r : List Gate) : Type 0 where
+  pub cascade : List Controlled
+  pub shown : s ≡ cascade-text n cascade
+  -- the text shows no other cascade, on no other number of lines, whose numbers have one or two digits
+  pub only : (m : ℕ) (gs : List Controlled) → AllProper (lines m ∷ as-forms gs) → s ≡ cascade-text m gs → (n ≡ m) × (cascade ≡ gs)
+  -- the circuit is its expansion
+  pub expanded : c ≡ expand-all n cascade
+  -- from each pattern the list ends in the cascade's pattern
+  pub realised : Realises n cascade r
+
+-- the circuit c is the one that a text shows, on n lines, and no other
+pub record ShownCircuit (n : ℕ) (s : List ℕ) (c : List Gate) : Type 0 where
+  pub shown : s ≡ circuit-text n c
+  pub only : (m : ℕ) (d : List Gate) → AllProper (lines m ∷ map gate d) → s ≡ circuit-text m d → (n ≡ m) × (c ≡ d)
+
+-- what the text s of a run with circuit c and list r means: map and quote take a cascade text, reduce a circuit text
+unfoldable pub Meant : Kind → ℕ → List ℕ → List Gate → List Gate → Type 0
+Meant Cascade n s c r = ShownCascade n s c r
+Meant Circuit n s c r = ShownCircuit n s c
 
 pub record Demand2 {n : ℕ} {c r : List Gate} (a : Ran n c r) : Type 0 where
-  pub meant : Meant (takes (a .job)) n (a .entry .text) r
+  pub meant : Meant (takes (a .job)) n (a .entry .text) c r
   -- the list has the matrix of the circuit read or expanded
   pub matrix : SameMatrix n r c
   -- the quote is the list's number of gates
@@ -89,15 +137,11 @@ pub record Demand2 {n : ℕ} {c r : List Gate} (a : Ran n c r) : Type 0 where
 
 -- ---- demand 3: the lists given
 
--- the list of a run is the one that document 01 defines for its circuit, is linked to it, and no linked circuit is shorter
-pub record Defined {n : ℕ} {c r : List Gate} (a : Ran n c r) : Type 0 where
-  pub reduced : Reduced n c r
-  pub linked : Linked n c r
-  pub fewest : (e : List Gate) → Linked n c e → length r ≤ length e
-  pub counted : a .job ≡ quoting → a .exit .count ≡ length r
-
--- two runs on the same number of lines: the lists are equal, gate for gate, exactly when a chain leads from one circuit to the other
+-- two runs on the same number of lines
 pub record Demand3 {n : ℕ} {c d r s : List Gate} (a : Ran n c r) (b : Ran n d s) : Type 0 where
+  -- the lists are equal, gate for gate, exactly when a chain leads from one circuit to the other
   pub same : (r ≡ s) ↔ Linked n c d
-  pub first : Defined a
-  pub second : Defined b
+  -- each is the reduced list of its circuit: linked to it, "of all circuits linked to it, one with the fewest gates, and among those the first
+  -- in dictionary order"
+  pub first : Reduced n c r
+  pub second : Reduced n d s

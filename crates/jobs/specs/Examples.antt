@@ -35,13 +35,9 @@ room (gates m) = 0
 room (away r l) = 0
 
 -- whatever gate list of at least 4,096 records and answer area with room enough is lent
-unfoldable pub Holds : Row → Type 0
-Holds (gives j ls a) = (e : Entry) (x : Exit) → e .text ≡ typed ls → 4096 ≤ length (e .list) → room a ≤ length (e .area) → Says j e x → Shows a x
-Holds (expands n cs t s m) = (spare n 0 (t ∷ cs) ≡ s) × (length (expansion n cs t) ≡ m)
-
-unfoldable pub All : List Row → Type 0
-All [] = Unit {0}
-All (r ∷ rs) = Holds r × All rs
+unfoldable pub Correct : Row → Type 0
+Correct (gives j ls a) = (e : Entry) (x : Exit) → e .text ≡ typed ls → 4096 ≤ length (e .list) → room a ≤ length (e .area) → Says j e x → Shows a x
+Correct (expands n cs t s m) = (spare n 0 (t ∷ cs) ≡ s) × (length (expansion n cs t) ≡ m)
 
 abbrev pub table : List Row
 table =

@@ -1,4 +1,4 @@
--- What the covered part of a job hands over to the thin function above it, which alone sees the lent gate records. Assumes nothing.
+-- What the covered part of a job, which sees only the length of the lent gate list, hands over to the thin function above it. Assumes nothing.
 use mathlib.Core.Path.{_≡_}
 use mathlib.Core.Bool.{cond}
 use mathlib.Core.List.{List, _++_}
@@ -7,6 +7,7 @@ use lib.ListN.{length, take, drop, replicate}
 use lib.Dec.{leb, ltb}
 use Rattle.gates.specs.declared.Gate.{Gate}
 use Rattle.gates.specs.declared.Gate.the-variants.{Not}
+use Rattle.gates.specs.Reduced.{Reduced}
 use Rattle.gates.specs.Code.{gates, AllCodes}
 use Rattle.records.specs.declared.Done.{Done}
 use Rattle.records.specs.declared.Outcome.{Outcome}
@@ -16,6 +17,7 @@ use Rattle.text.specs.declared.Refusal.the-variants.{ShortAnswer}
 use Rattle.text.specs.declared.Head.{Head}
 use Rattle.text.specs.Refusals.{number-of}
 use Rattle.text.specs.Text.{circuit-text}
+use Rattle.text.specs.Judging.{Judged, turned-away, accepted}
 use Rattle.loading.specs.declared.Loaded.{Loaded}
 use Rattle.loading.specs.declared.Loaded.the-variants as loaded
 use Rattle.jobs.specs.Jobs.{Job, Exit, Says}
@@ -36,6 +38,22 @@ pub record Hands (j : Job) (s : List ℕ) (room : ℕ) (a : List ℕ) (d : Done)
 -- what a job says where it works on a list of 4,096 records of the function's own
 abbrev pub Own : Job → List ℕ → List ℕ → Outcome → List ℕ → Type 0
 Own j s a o a′ = (l : List Gate) × Said j s (replicate 4096 (Not 0)) a o l a′
+
+-- ---- a text that was loaded, and its circuit reduced
+
+-- an accepted text with the head h: its circuit, read or expanded, whose reduced list is the gates of the first m codes
+pub record AcceptsReduced (j : Judged) (codes : List ℕ) (h : Head) (m : ℕ) : Type 0 where
+  pub circuit : List Gate
+  pub judged : j ≡ accepted h circuit
+  pub reduced : Reduced (h .lines) circuit (gates (take m codes))
+  pub valid : AllCodes 32 (take m codes)
+  pub few : m ≤ 4096
+  pub narrow : h .lines ≤ 32
+
+-- of a text that is judged j, the reduced list or the refusal
+abbrev pub LoadsReduced : Judged → List ℕ → Loaded → Type 0
+LoadsReduced j codes (loaded.Accepted h m) = AcceptsReduced j codes h m
+LoadsReduced j codes (loaded.Refused r l) = j ≡ turned-away r l
 
 -- ---- what is handed over
 
@@ -59,12 +77,12 @@ unfoldable pub written-area : Head → ℕ → List ℕ → List ℕ → List �
 written-area h m codes a = cond (ltb (length a) (length (text-of h m codes))) a (text-of h m codes ++ drop (length (text-of h m codes)) a)
 
 -- the first m codes can be written as a text below the head h
-pub record Writable (h : Head) (m : ℕ) (codes : List ℕ) : Type 0 where
+pub record Renderable (h : Head) (m : ℕ) (codes : List ℕ) : Type 0 where
   pub narrow : h .lines ≤ 32
   pub few : m ≤ 4096
   pub valid : AllCodes 32 (take m codes)
 
--- ---- by what the text was loaded as
+-- ---- by the reduced list, or the refusal
 
 abbrev pub text-done : Loaded → ℕ → List ℕ → List ℕ → Done
 text-done (loaded.Accepted h m) room codes a = written-done h m room codes a
@@ -78,7 +96,7 @@ abbrev pub count-done : Loaded → ℕ → List ℕ → Done
 count-done (loaded.Accepted h m) room codes = succeeded m m room codes
 count-done (loaded.Refused r l) room codes = refused r l room codes
 
--- what an accepted text was loaded as can be written
+-- the reduced list of an accepted text can be written
 abbrev pub Answerable : Loaded → List ℕ → Type 0
-Answerable (loaded.Accepted h m) codes = Writable h m codes
+Answerable (loaded.Accepted h m) codes = Renderable h m codes
 Answerable (loaded.Refused r l) codes = Unit {0}

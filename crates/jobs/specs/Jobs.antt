@@ -91,7 +91,8 @@ filled r l = r ++ replicate (length l - length r) (Not 0)
 abbrev pub success : Entry → List Gate → ℕ → List ℕ → Exit
 success e r n a = record { number = 0; line = 0; count = n; list = filled r (e .list); area = a }
 
--- "The answer area holds that list as a circuit text, at its front, its other bytes unchanged": s is the text of the list r
+-- "The answer area holds that list as a circuit text, with the n of the text read, at its front, its other bytes unchanged": s is the text of
+-- the list r
 unfoldable pub written : Entry → List Gate → List ℕ → Exit
 written e r s =
     cond (ltb (length (e .area)) (length s)) (refusal ShortAnswer 0 e) (success e r (length s) (s ++ drop (length s) (e .area)))

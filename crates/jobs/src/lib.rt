@@ -17,7 +17,7 @@ ghost use Rattle.text.specs.Judging.{first};
 ghost use Rattle.loading.specs.Seen.{seen-verdict};
 ghost use Rattle.loading.specs.Loaded.{LoadsTo};
 ghost use Rattle.jobs.specs.Jobs.{mapping, reducing, quoting, writes, size-rules, judged-text, Says};
-ghost use Rattle.jobs.specs.Handing.{Hands, Own, refused, succeeded, written-done, written-area, text-done, text-area, count-done, Writable, Answerable};
+ghost use Rattle.jobs.specs.Handing.{LoadsReduced, Hands, Own, refused, succeeded, written-done, written-area, text-done, text-area, count-done, Renderable, Answerable};
 
 // How many records a refusal writes: none for 1 and 2, else all.
 fn limit(number: u8, room: usize) -> usize
@@ -30,7 +30,7 @@ fn limit(number: u8, room: usize) -> usize
 }
 
 // A refusal, with its line.
-fn refuse(r: Refusal, line: usize, room: usize, codes: [u16; 4162]) -> Done
+fn refuse(r: Refusal, line: usize, room: usize, codes: [u16; 4096]) -> Done
     ensures { λ d. ⌜ d ≡ refused r line room codes ⌝ }
 {
     let number = text::number(r);
@@ -48,7 +48,7 @@ fn refuse(r: Refusal, line: usize, room: usize, codes: [u16; 4162]) -> Done
 }
 
 // Success, with the first m codes and a count.
-fn succeed(m: usize, count: usize, room: usize, codes: [u16; 4162]) -> Done
+fn succeed(m: usize, count: usize, room: usize, codes: [u16; 4096]) -> Done
     ensures { λ d. ⌜ d ≡ succeeded m count room codes ⌝ }
 {
     let outcome = Outcome {
@@ -65,8 +65,8 @@ fn succeed(m: usize, count: usize, room: usize, codes: [u16; 4162]) -> Done
 }
 
 // The first m codes written as a circuit text, where the answer area has room for it.
-fn answer_text(head: Head, m: usize, room: usize, codes: [u16; 4162], answer: &mut [u8]) -> Done
-    requires { ⌜ Writable head m codes ⌝ }
+fn answer_text(head: Head, m: usize, room: usize, codes: [u16; 4096], answer: &mut [u8]) -> Done
+    requires { ⌜ Renderable head m codes ⌝ }
     ensures { λ d. ⌜ (d ≡ written-done head m room codes (now (answer .entry))) × (now (answer .exit) ≡ written-area head m codes (now (answer .entry))) ⌝ }
 {
     let size = writing::measure(head, &codes, m);
@@ -77,8 +77,8 @@ fn answer_text(head: Head, m: usize, room: usize, codes: [u16; 4162], answer: &m
     succeed(m, count, room, codes)
 }
 
-// The answer of map and reduce, by what the text was loaded as.
-fn answer_loaded(loaded: Loaded, room: usize, codes: [u16; 4162], answer: &mut [u8]) -> Done
+// The answer of map and reduce, by the reduced list or the refusal.
+fn answer_loaded(loaded: Loaded, room: usize, codes: [u16; 4096], answer: &mut [u8]) -> Done
     requires { ⌜ Answerable loaded codes ⌝ }
     ensures { λ d. ⌜ (d ≡ text-done loaded room codes (now (answer .entry))) × (now (answer .exit) ≡ text-area loaded codes (now (answer .entry))) ⌝ }
 {
@@ -88,8 +88,8 @@ fn answer_loaded(loaded: Loaded, room: usize, codes: [u16; 4162], answer: &mut [
     }
 }
 
-// The answer of quote, by what the text was loaded as.
-fn count_loaded(loaded: Loaded, room: usize, codes: [u16; 4162]) -> Done
+// The answer of quote, by the reduced list or the refusal.
+fn count_loaded(loaded: Loaded, room: usize, codes: [u16; 4096]) -> Done
     ensures { λ d. ⌜ d ≡ count-done loaded room codes ⌝ }
 {
     match loaded {
@@ -113,7 +113,7 @@ fn size_rules(size: usize, room: usize) -> Verdict
 
 // Loads a text of this kind, where the gate list has `room` records.
 fn load_text(kind: Kind, text: &[u8], room: usize, codes: &mut [u16]) -> Loaded
-    requires { ⌜ 4162 ≤ length (now codes) ⌝ }
+    requires { ⌜ 4096 ≤ length (now codes) ⌝ }
     ensures { λ r. ⌜ LoadsTo (judged-text kind (now (text .entry)) room) (now (codes .exit)) r ⌝ }
 {
     if let Verdict::Breaks(r) = size_rules(text.len(), room) {
@@ -122,12 +122,25 @@ fn load_text(kind: Kind, text: &[u8], room: usize, codes: &mut [u16]) -> Loaded
     loading::load(kind, text, codes)
 }
 
+// Loads a text so, and reduces its circuit.
+fn load_reduced(kind: Kind, text: &[u8], room: usize, codes: &mut [u16]) -> Loaded
+    requires { ⌜ 4096 ≤ length (now codes) ⌝ }
+    ensures { λ r. ⌜ LoadsReduced (judged-text kind (now (text .entry)) room) (now (codes .exit)) r ⌝ }
+{
+    let loaded = load_text(kind, text, room, codes);
+    let Loaded::Accepted(head, m) = loaded else {
+        return loaded;
+    };
+    let fewer = reduction::reduce(codes, m);
+    Loaded::Accepted(head, fewer)
+}
+
 // The covered part of the job that answers a text of this kind with a circuit text.
 pub fn text_codes(kind: Kind, text: &[u8], room: usize, answer: &mut [u8]) -> Done
     ensures { λ d. ⌜ Hands (writes kind) (now (text .entry)) room (now (answer .entry)) d (now (answer .exit)) ⌝ }
 {
-    let mut codes = [0u16; 4162];
-    let loaded = load_text(kind, text, room, &mut codes);
+    let mut codes = [0u16; 4096];
+    let loaded = load_reduced(kind, text, room, &mut codes);
     answer_loaded(loaded, room, codes, answer)
 }
 
@@ -149,8 +162,8 @@ fn reduce_codes(text: &[u8], room: usize, answer: &mut [u8]) -> Done
 pub fn quote_codes(text: &[u8], room: usize) -> Done
     ensures { λ d. ⌜ Hands quoting (now (text .entry)) room [] d [] ⌝ }
 {
-    let mut codes = [0u16; 4162];
-    let loaded = load_text(Kind::Cascade, text, room, &mut codes);
+    let mut codes = [0u16; 4096];
+    let loaded = load_reduced(Kind::Cascade, text, room, &mut codes);
     count_loaded(loaded, room, codes)
 }
 

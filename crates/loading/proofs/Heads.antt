@@ -16,7 +16,7 @@ use Rattle.text.specs.Judging.{turned-away, first, head-rules, or-else, judge-l
 use Rattle.text.proofs.Cursor.{at-form, at-bad, at-end}
 use Rattle.reading.specs.Seen.{only-head}
 use Rattle.reading.proofs.Lines.{none-got}
-use Rattle.loading.specs.Seen.{Begins}
+use Rattle.loading.specs.Seen.{HasHead}
 
 -- a number of lines is in range
 pub range-low : (n : ℕ) → n < 1 → false ≡ (leb 1 n && leb n 32)
@@ -66,8 +66,8 @@ module _ (k : Kind) where
   head-inside s e q = a-head s e ∙ rw q
 
 -- the code's answer, where line 1 keeps the rules
-pub begins : (s : List ℕ) (at : ℕ) {h : Head} {next : ℕ} → only-head (parse (drop at s)) ≡ got h (drop next s) → (leb 1 (h .lines) && leb (h .lines) 32) ≡ true → (at < next) × (next ≤ length s) → Begins s at h next
-begins s at {h} e q a = let w = range (h .lines) q in record {
+pub has-head : (s : List ℕ) (at : ℕ) {h : Head} {next : ℕ} → only-head (parse (drop at s)) ≡ got h (drop next s) → (leb 1 (h .lines) && leb (h .lines) 32) ≡ true → (at < next) × (next ≤ length s) → HasHead s at h next
+has-head s at {h} e q a = let w = range (h .lines) q in record {
   judged = λ k. head-inside k (drop at s) e q;
   some = w .0;
   narrow = w .1;

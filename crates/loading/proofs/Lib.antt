@@ -3,5 +3,5 @@ pub mod Rules
 pub mod Lines
 pub mod Heads
 pub mod Loading
-pub mod Adding
-pub mod Values
+pub mod Again
+pub mod Steps

@@ -1,41 +1,36 @@
 -- The lines of a text loaded one after the other: what holds between them. Assumes nothing.
-use mathlib.Core.Path.{_≡_, refl, sym, ap, _∙_, subst}
-use mathlib.Core.List.{List, [], _∷_, _++_}
+use mathlib.Core.Path.{_≡_, refl, sym, ap, _∙_}
+use mathlib.Core.List.{List, _++_, map}
 use Prim.Native.Nat.{ℕ, suc, _+_, _≤_, _<_}
 use native.Mathlib.Omega.{arith}
-use lib.ListN.{length, take, drop, getD, length-append, drop-of-length-le}
-use lib.Seq.{drop-cons}
+use native.Mathlib.Nat.{le-refl}
+use lib.ListN.{length, take, drop, getD, set, length-append, drop-of-length-le}
+use lib.Seq.{drop-cons, length-take-le}
 use Rattle.gates.specs.declared.Gate.{Gate}
 use Rattle.gates.specs.Circuit.{AllValid}
-use Rattle.gates.specs.Code.{code, gates as gates-of, AllCodes}
-use Rattle.gates.proofs.Push.{push}
-use Rattle.gates.proofs.Normal.{Normal, normal-nil}
-use Rattle.gates.proofs.Same.{pushes}
-use Rattle.gates.proofs.Reach.{all-valid-append}
-use Rattle.gates.proofs.Theorem.{nf, normal-pushes, nf-reduced}
-use Rattle.gates.proofs.Joins.{nf-nil, nf-append, nf-snoc}
-use Rattle.gates.proofs.Codes.{gate-code, code-code}
-use Rattle.gates.proofs.CodeLists.{valid-more}
+use Rattle.gates.specs.Code.{code, gates as gates-of}
+use Rattle.gates.proofs.CodeLists.{length-gates, gates-append, gates-code, all-codes-append, all-codes-code, all-valid-more}
 use Rattle.text.specs.declared.Refusal.{Refusal}
 use Rattle.text.specs.declared.Head.{Head}
 use Rattle.text.specs.Text.{Form, gate, mct}
 use Rattle.text.specs.Reading.{cut}
 use Rattle.text.specs.declared.Kind.{Kind}
 use Rattle.text.specs.declared.Kind.the-variants.{Cascade, Circuit}
-use Rattle.text.specs.Judging.{Judged, turned-away, accepted, gates, most, controls, judge-lines, read-all}
+use Rattle.text.specs.Judging.{Judged, turned-away, accepted, gates, most, controls, judge-lines, read-all, judge}
 use Rattle.text.proofs.Cursor.{at-end}
 use Rattle.text.proofs.Accepted.{Kept, good-valid, expandable}
-use Rattle.reduction.specs.Pushed.{Pushable, Pushed}
-use Rattle.reduction.specs.Bounds.{Bounded}
-use Rattle.reduction.proofs.Bounding.{bounded-none}
-use Rattle.loading.specs.Seen.{keeps, fails, judge-line}
-use Rattle.cascades.specs.Expansion.{expansion, counts, Expandable}
+use Rattle.cascades.specs.Expansion.{expansion, Expandable}
 use Rattle.cascades.specs.Cascade.{Below}
-use Rattle.cascades.proofs.Counts.{expansion-count}
+use Rattle.expansion.specs.Written.{Written}
+use Rattle.expansion.proofs.Writing.{one}
 use Rattle.reading.specs.declared.Controls.{Controls}
 use Rattle.reading.specs.Seen.{gathered}
 use Rattle.reading.proofs.Gathered.{count-is, listed-length, listed-is}
-use Rattle.loading.specs.Loaded.{Holds, controls-of, Addable, Added}
+use Rattle.loading.specs.Seen.{HasHead, keeps, fails, judge-line}
+use Rattle.loading.specs.declared.Loaded.{Loaded}
+use Rattle.loading.specs.declared.Loaded.the-variants as loaded
+use Rattle.loading.specs.declared.Progress.{Progress}
+use Rattle.loading.specs.Loaded.{LoadsTo, standing, refused-at, Begun, judged-on, Counted, Sound, Stands, Ready, Taken, controls-of, ExpansionFits}
 use Rattle.loading.proofs.Lines.{goes-on, line-judged, line-kept}
 
 -- ---- the judging goes on
@@ -57,152 +52,120 @@ module _ (k : Kind) (h : Head) (before : ℕ) (c : List Gate) (s : List ℕ) (at
   unfolding judge-lines
   lines-end l = ap (λ (t : List ℕ). judge-lines k h before c (read-all (cut t))) (drop-of-length-le s {i = at} l) ∙ ap (judge-lines k h before c) at-end
 
--- ---- between two lines
+-- ---- line 1
 
--- after `before` lines that made a circuit of `total` gates, the place is `at`, and the first n codes of l are the circuit's reduced list;
--- j is what the whole text is judged to be
-pub record Loading (k : Kind) (h : Head) (j : Judged) (s l : List ℕ) (at before total n : ℕ) : Type 0 where
-  pub made : List Gate
-  pub judged : judge-lines k h before made (read-all (cut (drop at s))) ≡ j
-  pub count : length made ≡ total
-  pub valid : AllValid (h .lines) made
-  pub list : gates-of (take n l) ≡ nf made
-  pub codes : AllCodes 32 (take n l)
-  pub bounded : Bounded l n
-  pub few : n ≤ total
+none-counted : (k : Kind) → Counted k 0 0
+none-counted Cascade = omega arith
+none-counted Circuit = refl
 
-pub start : (k : Kind) (h : Head) (s l : List ℕ) (at : ℕ) → 4162 ≤ length l → Loading k h (judge-lines k h 0 [] (read-all (cut (drop at s)))) s l at 0 0 0
-start k h s l at room = record { made = []; judged = refl; count = refl; valid = tt; list = sym nf-nil; codes = tt; bounded = bounded-none l room; few = omega arith }
-
-list-normal : {k : Kind} {h : Head} {j : Judged} {s l : List ℕ} {at before total n : ℕ} → Loading k h j s l at before total n → Normal (gates-of (take n l))
-unfolding nf
-list-normal w = rw (w .list) (normal-pushes (w .made) normal-nil)
-
--- at the end of the text
-pub loaded : {k : Kind} {h : Head} {j : Judged} {s l : List ℕ} {at before total n : ℕ} → Loading k h j s l at before total n → length s ≤ at → total ≤ 4096 → h .lines ≤ 32 → Holds j l h n
-loaded {k} {h} {j} {s} {l} {at} {before} {total} {n} w e t b = record {
-  circuit = w .made;
-  judged = sym (w .judged) ∙ lines-end k h before (w .made) s at e;
-  reduced = rw (w .list) (nf-reduced (h .lines) (w .made) (w .valid));
-  codes = w .codes;
-  few = omega (arith, w .few, t);
-  narrow = b;
+pub begun : {s : List ℕ} {at : ℕ} {h : Head} {next : ℕ} → HasHead s at h next → Begun s at (standing next 0 h 0)
+begun x = record {
+  forward = omega (arith, x .ahead);
+  stands = λ k l. record { inside = x .inside; judged = sym (x .judged k); sound = record { some = x .some; narrow = x .narrow; counted = none-counted k; few = omega arith; codes = tt } };
 }
 
--- a line that fails
-pub refused : {k : Kind} {h : Head} {j : Judged} {s l : List ℕ} {at before total n : ℕ} {x : Refusal} {i : ℕ} (w : Loading k h j s l at before total n) → at < length s → fails x ≡ judge-line k h before (w .made) (drop at s) → i ≡ before + 2 → j ≡ turned-away x i
-refused {k} {h} {j} {s} {l} {at} {before} {x = x} w a e q = sym (w .judged) ∙ line-fails k h before (w .made) s at a e ∙ ap (turned-away x) (sym q)
+pub refused-first : {s : List ℕ} {at : ℕ} {r : Refusal} {i : ℕ} → at ≤ length s → ((k : Kind) → judge k (drop at s) ≡ turned-away r i) → Begun s at (refused-at (length s) r i)
+refused-first {s} b x = record { forward = b; stands = λ k l. record { inside = le-refl (length s); judged = sym (x k); sound = refl } }
+
+-- ---- where the loading stands
+
+module _ {k : Kind} {s : List ℕ} {at : ℕ} {p : Progress} {l : List ℕ} (w : Ready k s at p l) where
+  -- no line is taken of a text that is refused
+  pub not-refused : {r : Refusal} {i : ℕ} → p .loaded ≡ loaded.Refused r i → ⊥
+  not-refused e = let z = rw e at (w .sound) in omega (arith, z, w .here, w .more)
+
+  module _ {h : Head} {m : ℕ} (e : p .loaded ≡ loaded.Accepted h m) where
+    pub ready-mct : k ≡ Cascade → Ready Cascade s at (standing at (p .lines) h m) l
+    ready-mct q = record { here = refl; more = w .more; room = w .room; sound = rw (e, q) at (w .sound) }
+
+    pub ready-gate : k ≡ Circuit → Ready Circuit s at (standing at m h m) l
+    ready-gate q = let z = rw (e, q) at (w .sound) in record { here = refl; more = w .more; room = w .room; sound = record { some = z .some; narrow = z .narrow; counted = refl; few = z .few; codes = z .codes } }
+
+    pub mct-moves : {r : Progress} {l′ : List ℕ} → k ≡ Cascade → Taken Cascade s at (standing at (p .lines) h m) l r l′ → Taken k s at p l r l′
+    mct-moves q t = record { forward = t .forward; stands = rw (w .here, e, q) (t .stands) }
+
+    pub gate-moves : {r : Progress} {l′ : List ℕ} → k ≡ Circuit → Taken Circuit s at (standing at m h m) l r l′ → Taken k s at p l r l′
+    gate-moves q t = let z : p .lines ≡ m = rw (e, q) at (w .sound) .counted in record { forward = t .forward; stands = rw (w .here, e, q, z) (t .stands) }
+
+-- ---- a line
+
+module _ {k : Kind} {s : List ℕ} {at before : ℕ} {h : Head} {m : ℕ} {l : List ℕ} (w : Ready k s at (standing at before h m) l) where
+  pub circuit-count : length (gates-of (take m l)) ≡ m
+  circuit-count = length-gates (take m l) ∙ length-take-le m l (omega (arith, w .room, w .sound .few))
+
+  -- that breaks a rule
+  pub refused : {x : Refusal} {i : ℕ} → fails x ≡ judge-line k h before (gates-of (take m l)) (drop at s) → i ≡ before + 2 → Taken k s at (standing at before h m) l (refused-at (length s) x i) l
+  refused {x} e q = record { forward = w .more; stands = record { inside = le-refl (length s); judged = ap (turned-away x) q ∙ sym (line-fails k h before (gates-of (take m l)) s at (w .more) e); sound = refl } }
+
+  -- that keeps the rules, and whose gates were written
+  module _ {f : Form} {r : List ℕ} (e : keeps f r ≡ judge-line k h before (gates-of (take m l)) (drop at s)) where
+    pub kept : Kept k h before (gates-of (take m l)) f
+    kept = line-kept k h before (gates-of (take m l)) (drop at s) (sym e)
+
+    pub room-left : m + length (gates (h .lines) f) ≤ 4096
+    room-left = omega (arith, kept .short, length-append (gates-of (take m l)) (gates (h .lines) f), circuit-count)
+
+    pub valid : AllValid (h .lines) (gates (h .lines) f)
+    valid = good-valid k (h .lines) f (kept .good)
+
+    pub taken : {n next : ℕ} {l′ : List ℕ} → r ≡ drop next s → (at < next) × (next ≤ length s) → Written (gates (h .lines) f) l m l′ n → Counted k (before + 1) n → Taken k s at (standing at before h m) l (standing next (before + 1) h n) l′
+    taken {n} {next} {l′} d a x c = record {
+      forward = a .0;
+      stands = record {
+        inside = a .1;
+        judged = rw (← d) (ap (λ (c : List Gate). judge-lines k h (before + 1) c (read-all (cut r))) made ∙ sym (line-next k h before (gates-of (take m l)) s at (w .more) e));
+        sound = record {
+          some = w .sound .some;
+          narrow = w .sound .narrow;
+          counted = c;
+          few = omega (arith, x .count, room-left);
+          codes = rw (x .front) (all-codes-append 32 (take m l) (map code (gates (h .lines) f)) (w .sound .codes) (all-codes-code 32 (gates (h .lines) f) (le-refl 32) (all-valid-more (h .lines) 32 (gates (h .lines) f) (w .sound .narrow) valid)));
+        };
+      };
+    }
+      where
+        made : gates-of (take n l′) ≡ gates-of (take m l) ++ gates (h .lines) f
+        made = ap gates-of (x .front) ∙ gates-append (take m l) (map code (gates (h .lines) f)) ∙ ap (λ (d : List Gate). gates-of (take m l) ++ d) (gates-code (h .lines) (gates (h .lines) f) (w .sound .narrow) valid)
+
+-- ---- at the end of the text
+
+pub loaded-all : {k : Kind} {j : Judged} {s : List ℕ} {p : Progress} {l : List ℕ} → Stands k j s p l → length s ≤ p .place → LoadsTo j l (p .loaded)
+loaded-all {k} {j} {s} {p} {l} w e = go (p .loaded) (w .judged) (w .sound)
+  where
+    go : (x : Loaded) → judged-on k s (p .place) (p .lines) x l ≡ j → Sound k s (p .place) (p .lines) x l → LoadsTo j l x
+    go (loaded.Accepted h m) q v = record { judged = sym q ∙ lines-end k h (p .lines) (gates-of (take m l)) s (p .place) e; codes = v .codes; few = v .few; narrow = v .narrow }
+    go (loaded.Refused r i) q v = sym q
 
 -- ---- a gate of a circuit
 
-module _ {h : Head} {j : Judged} {s l : List ℕ} {at before n : ℕ} {g : Gate} {r : List ℕ} (narrow : h .lines ≤ 32) (w : Loading Circuit h j s l at before before n) (e : keeps (gate g) r ≡ judge-line Circuit h before (w .made) (drop at s)) where
-  kept : Kept Circuit h before (w .made) (gate g)
-  kept = line-kept Circuit h before (w .made) (drop at s) (sym e)
+pub gate-taken : {s : List ℕ} {at n : ℕ} {h : Head} {l : List ℕ} {g : Gate} {r : List ℕ} {next : ℕ} (w : Ready Circuit s at (standing at n h n) l) → keeps (gate g) r ≡ judge-line Circuit h n (gates-of (take n l)) (drop at s) → r ≡ drop next s → (at < next) × (next ≤ length s) → Taken Circuit s at (standing at n h n) l (standing next (n + 1) h (n + 1)) (set l n (code g))
+unfolding gates
+gate-taken {n = n} {l = l} {g} w e d a = taken w e d a (one g l n (omega (arith, room-left w e, w .room))) refl
 
-  one : AllValid (h .lines) (g ∷ [])
-  unfolding gates
-  one = good-valid Circuit (h .lines) (gate g) (kept .good)
+-- ---- an mct gate of a cascade, of whose controls cs there is what was gathered
 
-  pub gate-few : before + 1 ≤ 4096
-  unfolding most
-  gate-few = kept .few
-
-  pub gate-pushable : 4162 ≤ length l → Pushable l n (code g)
-  gate-pushable room = record {
-    room = room;
-    few = omega (arith, w .few, gate-few);
-    codes = w .codes;
-    normal = list-normal w;
-    bounded = w .bounded;
-    code = code-code (omega arith) (valid-more narrow (one .0));
-  }
-
-  pub gate-loaded : {l′ : List ℕ} {next m : ℕ} → r ≡ drop next s → at < length s → Pushed l n (code g) m l′ → Loading Circuit h j s l′ next (before + 1) (before + 1) m
-  unfolding gates
-  gate-loaded {l′} {next} {m} d a p = record {
-    made = w .made ++ (g ∷ []);
-    judged = sym (line-next Circuit h before (w .made) s at a (e′ d)) ∙ w .judged;
-    count = length-append (w .made) (g ∷ []) ∙ omega (arith, w .count);
-    valid = all-valid-append (h .lines) (w .made) (g ∷ []) (w .valid) one;
-    list = p .pushed ∙ ap (λ (x : Gate). push (gates-of (take n l)) x) (gate-code narrow (one .0)) ∙ ap (λ (v : List Gate). push v g) (w .list) ∙ sym (nf-snoc (w .made) g);
-    codes = p .codes;
-    bounded = p .bounded;
-    few = omega (arith, p .within, w .few);
-  }
-    where
-      e′ : r ≡ drop next s → keeps (gate g) (drop next s) ≡ judge-line Circuit h before (w .made) (drop at s)
-      e′ d = ap (keeps (gate g)) (sym d) ∙ e
-
--- ---- an mct gate of a cascade
-
-module _ {h : Head} {j : Judged} {s l : List ℕ} {at before total n : ℕ} {a : Controls} {cs : List ℕ} {t : ℕ} {r : List ℕ} (narrow : h .lines ≤ 32) (w : Loading Cascade h j s l at before total n) (g : a ≡ gathered cs) (e : keeps (mct cs t) r ≡ judge-line Cascade h before (w .made) (drop at s)) where
-  mct-rules-kept : Kept Cascade h before (w .made) (mct cs t)
-  mct-rules-kept = line-kept Cascade h before (w .made) (drop at s) (sym e)
-
-  abbrev circuit-of : List Gate
-  circuit-of = expansion (h .lines) cs t
-
+module _ {s : List ℕ} {at before : ℕ} {h : Head} {m : ℕ} {l : List ℕ} {a : Controls} {cs : List ℕ} {t : ℕ} {r : List ℕ} (w : Ready Cascade s at (standing at before h m) l) (g : a ≡ gathered cs) (e : keeps (mct cs t) r ≡ judge-line Cascade h before (gates-of (take m l)) (drop at s)) where
   wide : length cs ≤ 15
   unfolding controls
-  wide = mct-rules-kept .narrow
-
-  pub mct-few : before + 1 ≤ 256
-  unfolding most
-  mct-few = mct-rules-kept .few
+  wide = kept w e .narrow
 
   controls-count : a .count ≡ length cs
   controls-count = ap (λ (b : Controls). b .count) g ∙ count-is cs
 
-  pub count-few : a .count ≤ 15
-  count-few = omega (arith, controls-count, wide)
-
   pub count-there : a .count ≤ length (a .listed)
-  count-there = omega (arith, count-few, ap (λ (b : Controls). length (b .listed)) g ∙ listed-length cs)
+  count-there = omega (arith, controls-count, wide, ap (λ (b : Controls). length (b .listed)) g ∙ listed-length cs)
 
   are-controls : controls-of a ≡ cs
   unfolding controls-of
   are-controls = ap (λ (b : Controls). take (b .count) (b .listed)) g ∙ ap (λ (i : ℕ). take i (gathered cs .listed)) (count-is cs) ∙ listed-is cs (omega (arith, wide))
 
-  gates-count : length circuit-of ≡ getD counts (a .count) 0
-  gates-count = expansion-count (h .lines) cs t wide ∙ ap (λ (i : ℕ). getD counts i 0) (sym controls-count)
-
-  room-left : length (w .made) + length circuit-of ≤ 4096
-  unfolding gates
-  room-left = omega (arith, mct-rules-kept .short, length-append (w .made) circuit-of)
-
-  pub total-few : total + getD counts (a .count) 0 ≤ 4096
-  total-few = omega (arith, room-left, gates-count, w .count)
-
   on-lines : Expandable (h .lines) cs t × Below (h .lines) cs
-  on-lines = expandable (h .lines) cs t (mct-rules-kept .good)
+  on-lines = expandable (h .lines) cs t (kept w e .good)
 
-  pub mct-addable : 4162 ≤ length l → Addable h t (controls-of a) l n
-  mct-addable room = rw are-controls (record {
-    narrow = narrow;
-    expandable = on-lines .0;
-    below = on-lines .1;
-    room = room;
-    few = omega (arith, w .few, w .count, room-left);
-    codes = w .codes;
-    normal = list-normal w;
-    bounded = w .bounded;
-  })
-
-  pub mct-loaded : {l′ : List ℕ} {next m x : ℕ} → r ≡ drop next s → at < length s → x ≡ getD counts (a .count) 0 → Added h t (controls-of a) l n m l′ → Loading Cascade h j s l′ next (before + 1) (total + x) m
+  pub expansion-fits-at : ExpansionFits h t (controls-of a) m (length l)
   unfolding gates
-  mct-loaded {l′} {next} {m} {x} d b q p₀ = record {
-    made = w .made ++ circuit-of;
-    judged = sym (line-next Cascade h before (w .made) s at b (e′ d)) ∙ w .judged;
-    count = length-append (w .made) circuit-of ∙ omega (arith, w .count, gates-count, q);
-    valid = all-valid-append (h .lines) (w .made) circuit-of (w .valid) (good-valid Cascade (h .lines) (mct cs t) (mct-rules-kept .good));
-    list = p .pushed ∙ ap (λ (v : List Gate). pushes v circuit-of) (w .list) ∙ sym (nf-append (w .made) circuit-of);
-    codes = p .codes;
-    bounded = p .bounded;
-    few = omega (arith, p .within, w .few, gates-count, q);
-  }
-    where
-      p : Added h t cs l n m l′
-      p = subst (λ (ds : List ℕ). Added h t ds l n m l′) are-controls p₀
+  expansion-fits-at = rw are-controls (record { narrow = w .sound .narrow; expandable = on-lines .0; below = on-lines .1; fits = omega (arith, room-left w e, w .room) })
 
-      e′ : r ≡ drop next s → keeps (mct cs t) (drop next s) ≡ judge-line Cascade h before (w .made) (drop at s)
-      e′ d = ap (keeps (mct cs t)) (sym d) ∙ e
+  pub mct-taken : {n next : ℕ} {l′ : List ℕ} → r ≡ drop next s → (at < next) × (next ≤ length s) → Written (expansion (h .lines) (controls-of a) t) l m l′ n → Taken Cascade s at (standing at before h m) l (standing next (before + 1) h n) l′
+  unfolding gates most
+  mct-taken d b x = taken w e d b (rw are-controls at x) (kept w e .few)

@@ -26,6 +26,14 @@ use Rattle.reading.specs.Seen.{gathered}
 use Rattle.reading.proofs.Gathered.{count-is, rising-is, largest-is, mark-is}
 use Rattle.loading.specs.Seen.{tried, over}
 
+-- ---- one of two tests is met: the first, or else it is the second that tells
+
+pub either-first : (n a b : ℕ) {r : Bool} → n ≤ a → r ≡ leb n a → r ≡ (leb n a || leb n b)
+either-first n a b h e = e ∙ rw (le-leb n a h)
+
+pub either-second : (n a b : ℕ) {r : Bool} → a < n → r ≡ leb n b → r ≡ (leb n a || leb n b)
+either-second n a b h e = e ∙ rw (lt-leb n a h)
+
 -- the next gate of a circuit is the 4,097th
 full : (before : ℕ) (c : List Gate) (g : Gate) → length c ≡ before → (ltb 4096 (before + 1) || ltb 4096 (length (c ++ g ∷ []))) ≡ leb 4096 before
 full before c g e =

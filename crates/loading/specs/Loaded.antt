@@ -1,56 +1,103 @@
--- What loading a text leaves: the judgement of the text, and the reduced list of its circuit as codes. Assumes nothing.
+-- What loading a text leaves: the judgement of the text, and its circuit as codes. Assumes nothing.
 use mathlib.Core.Path.{_≡_}
 use mathlib.Core.List.{List}
-use Prim.Native.Nat.{ℕ, _+_, _≤_}
-use lib.ListN.{length, take}
-use Rattle.gates.specs.declared.Gate.{Gate}
-use Rattle.gates.specs.Reduced.{Reduced}
+use Prim.Native.Nat.{ℕ, _+_, _≤_, _<_}
+use lib.ListN.{length, take, drop}
 use Rattle.gates.specs.Code.{gates, AllCodes}
-use Rattle.gates.proofs.Normal.{Normal}
-use Rattle.gates.proofs.Same.{pushes}
+use Rattle.text.specs.declared.Refusal.{Refusal}
 use Rattle.text.specs.declared.Head.{Head}
-use Rattle.text.specs.Judging.{Judged, turned-away, accepted}
+use Rattle.text.specs.declared.Kind.{Kind}
+use Rattle.text.specs.declared.Kind.the-variants.{Cascade, Circuit}
+use Rattle.text.specs.Reading.{cut}
+use Rattle.text.specs.Judging.{Judged, turned-away, accepted, read-all, judge-lines, judge}
 use Rattle.cascades.specs.Expansion.{expansion, Expandable}
 use Rattle.cascades.specs.Cascade.{Below}
-use Rattle.reduction.specs.Bounds.{Bounded}
 use Rattle.reading.specs.declared.Controls.{Controls}
+use Rattle.loading.specs.declared.Progress.{Progress}
 use Rattle.loading.specs.declared.Loaded.{Loaded}
 use Rattle.loading.specs.declared.Loaded.the-variants as loaded
 
--- an accepted text with the head h: its circuit, read or expanded, whose reduced list is the first m codes of the list l
-pub record Holds (j : Judged) (l : List ℕ) (h : Head) (m : ℕ) : Type 0 where
-  pub circuit : List Gate
-  pub judged : j ≡ accepted h circuit
-  pub reduced : Reduced (h .lines) circuit (gates (take m l))
+-- an accepted text with the head h: its circuit, read or expanded, is the gates of the first m codes of the list l; nothing is said of the other
+-- codes, nor of any where the text is refused
+pub record Accepts (j : Judged) (l : List ℕ) (h : Head) (m : ℕ) : Type 0 where
+  pub judged : j ≡ accepted h (gates (take m l))
   pub codes : AllCodes 32 (take m l)
   pub few : m ≤ 4096
   pub narrow : h .lines ≤ 32
 
 -- a text that is judged j was loaded into the list l
 abbrev pub LoadsTo : Judged → List ℕ → Loaded → Type 0
-LoadsTo j l (loaded.Accepted h m) = Holds j l h m
+LoadsTo j l (loaded.Accepted h m) = Accepts j l h m
 LoadsTo j l (loaded.Refused r i) = j ≡ turned-away r i
 
--- ---- an mct gate added to a reduced list
+-- ---- between two lines
+
+-- the place is `at`, after `before` gate lines below the head h that made the first m codes
+abbrev pub standing : ℕ → ℕ → Head → ℕ → Progress
+standing at before h m = record { place = at; lines = before; loaded = loaded.Accepted h m }
+
+-- the text is refused, and its end is at the place
+abbrev pub refused-at : ℕ → Refusal → ℕ → Progress
+refused-at end r i = record { place = end; lines = 0; loaded = loaded.Refused r i }
+
+-- what the whole text s is judged to be: the lines from the place on are judged after those that were taken
+abbrev pub judged-on : Kind → List ℕ → ℕ → ℕ → Loaded → List ℕ → Judged
+judged-on k s at before (loaded.Accepted h m) l = judge-lines k h before (gates (take m l)) (read-all (cut (drop at s)))
+judged-on k s at before (loaded.Refused r i) l = turned-away r i
+
+abbrev pub judged-from : Kind → List ℕ → Progress → List ℕ → Judged
+judged-from k s p l = judged-on k s (p .place) (p .lines) (p .loaded) l
+
+-- at most 256 mct lines were taken; a line of a circuit makes one code
+abbrev pub Counted : Kind → ℕ → ℕ → Type 0
+Counted Cascade before m = before ≤ 256
+Counted Circuit before m = before ≡ m
+
+-- what holds of the lines that were taken, and of the codes that they made
+pub record SoFar (k : Kind) (before : ℕ) (h : Head) (m : ℕ) (l : List ℕ) : Type 0 where
+  pub some : 1 ≤ h .lines
+  pub narrow : h .lines ≤ 32
+  pub counted : Counted k before m
+  pub few : m ≤ 4096
+  pub codes : AllCodes 32 (take m l)
+
+-- so of a text that is not refused; one that is refused is read no further
+abbrev pub Sound : Kind → List ℕ → ℕ → ℕ → Loaded → List ℕ → Type 0
+Sound k s at before (loaded.Accepted h m) l = SoFar k before h m l
+Sound k s at before (loaded.Refused r i) l = at ≡ length s
+
+-- the loading of the text s stands at p, and s is judged j
+pub record Stands (k : Kind) (j : Judged) (s : List ℕ) (p : Progress) (l : List ℕ) : Type 0 where
+  pub inside : p .place ≤ length s
+  pub judged : judged-from k s p l ≡ j
+  pub sound : Sound k s (p .place) (p .lines) (p .loaded) l
+
+-- line 1 was read, from the place `at` on, and the loading stands at p, whatever kind of text it is, and whatever stands in the list
+pub record Begun (s : List ℕ) (at : ℕ) (p : Progress) : Type 0 where
+  pub forward : at ≤ p .place
+  pub stands : (k : Kind) (l : List ℕ) → Stands k (judge k (drop at s)) s p l
+
+-- a line can be taken at the place `at`
+pub record Ready (k : Kind) (s : List ℕ) (at : ℕ) (p : Progress) (l : List ℕ) : Type 0 where
+  pub here : p .place ≡ at
+  pub more : at < length s
+  pub room : 4096 ≤ length l
+  pub sound : Sound k s (p .place) (p .lines) (p .loaded) l
+
+-- it was taken: the place moved forward, and what the text is judged to be stayed
+pub record Taken (k : Kind) (s : List ℕ) (at : ℕ) (p : Progress) (l : List ℕ) (q : Progress) (l′ : List ℕ) : Type 0 where
+  pub forward : at < q .place
+  pub stands : Stands k (judged-from k s p l) s q l′
+
+-- ---- the expansion of an mct gate
 
 -- the controls, from what was gathered of them
 unfoldable pub controls-of : Controls → List ℕ
 controls-of a = take (a .count) (a .listed)
 
--- the gate can be expanded behind the first n codes, which are then at most 4,096
-pub record Addable (h : Head) (t : ℕ) (cs : List ℕ) (l : List ℕ) (n : ℕ) : Type 0 where
+-- the gate can be expanded, and its expansion written from code m on
+pub record ExpansionFits (h : Head) (t : ℕ) (cs : List ℕ) (m room : ℕ) : Type 0 where
   pub narrow : h .lines ≤ 32
   pub expandable : Expandable (h .lines) cs t
   pub below : Below (h .lines) cs
-  pub room : 4162 ≤ length l
-  pub few : n + length (expansion (h .lines) cs t) ≤ 4096
-  pub codes : AllCodes 32 (take n l)
-  pub normal : Normal (gates (take n l))
-  pub bounded : Bounded l n
-
--- the gates of its expansion pushed, in turn, onto the first n
-pub record Added (h : Head) (t : ℕ) (cs : List ℕ) (entry : List ℕ) (n r : ℕ) (exit : List ℕ) : Type 0 where
-  pub pushed : gates (take r exit) ≡ pushes (gates (take n entry)) (expansion (h .lines) cs t)
-  pub within : r ≤ n + length (expansion (h .lines) cs t)
-  pub codes : AllCodes 32 (take r exit)
-  pub bounded : Bounded exit r
+  pub fits : m + length (expansion (h .lines) cs t) ≤ room

@@ -19,12 +19,12 @@ use Rattle.reading.specs.declared.Controls.{Controls}
 use Rattle.reading.specs.Seen.{gathered}
 use Rattle.loading.specs.declared.Verdict.{Verdict}
 use Rattle.loading.specs.declared.Verdict.the-variants as verdict
-use Rattle.loading.specs.declared.HeadAnswer.{HeadAnswer}
-use Rattle.loading.specs.declared.HeadAnswer.the-variants as head-answer
-use Rattle.loading.specs.declared.CircuitLine.{CircuitLine}
-use Rattle.loading.specs.declared.CircuitLine.the-variants as circuit-line
-use Rattle.loading.specs.declared.MctAnswer.{MctAnswer}
-use Rattle.loading.specs.declared.MctAnswer.the-variants as mct-answer
+use Rattle.loading.specs.declared.HeadLine.{HeadLine}
+use Rattle.loading.specs.declared.HeadLine.the-variants as head-line
+use Rattle.loading.specs.declared.GateLine.{GateLine}
+use Rattle.loading.specs.declared.GateLine.the-variants as gate-line
+use Rattle.loading.specs.declared.TargetLine.{TargetLine}
+use Rattle.loading.specs.declared.TargetLine.the-variants as target-line
 
 -- ---- the rules
 
@@ -54,7 +54,7 @@ MctVerdict h t a before total r = (cs : List ℕ) (c : List Gate) → a ≡ gath
 -- ---- line 1
 
 -- line 1, from a place of the text s on, has the head h and ends at `next`: the judging goes on there, whatever the kind of text
-pub record Begins (s : List ℕ) (at : ℕ) (h : Head) (next : ℕ) : Type 0 where
+pub record HasHead (s : List ℕ) (at : ℕ) (h : Head) (next : ℕ) : Type 0 where
   pub judged : (k : Kind) → judge k (drop at s) ≡ judge-lines k h 0 [] (read-all (cut (drop next s)))
   pub some : 1 ≤ h .lines
   pub narrow : h .lines ≤ 32
@@ -62,9 +62,9 @@ pub record Begins (s : List ℕ) (at : ℕ) (h : Head) (next : ℕ) : Type 0 whe
   pub inside : next ≤ length s
 
 -- what line 1 was found to be: as above, or the text is turned away
-abbrev pub HeadLineOf : List ℕ → ℕ → HeadAnswer → Type 0
-HeadLineOf s at (head-answer.Head h next) = Begins s at h next
-HeadLineOf s at (head-answer.Refused r l) = (k : Kind) → judge k (drop at s) ≡ turned-away r l
+abbrev pub HeadLineOf : List ℕ → ℕ → HeadLine → Type 0
+HeadLineOf s at (head-line.Head h next) = HasHead s at h next
+HeadLineOf s at (head-line.Refused r l) = (k : Kind) → judge k (drop at s) ≡ turned-away r l
 
 -- ---- a line after line 1
 
@@ -86,25 +86,25 @@ unfoldable pub judge-line : Kind → Head → ℕ → List Gate → List ℕ →
 judge-line k h before c s = by-form k h before c (parse s)
 
 -- what a line of a circuit was found to be, in the text s
-abbrev pub seen-circuit-line : List ℕ → CircuitLine → Judgement
-seen-circuit-line s (circuit-line.Gate g next) = keeps (gate g) (drop next s)
-seen-circuit-line s (circuit-line.Refused r l) = fails r
+abbrev pub seen-gate-line : List ℕ → GateLine → Judgement
+seen-gate-line s (gate-line.Gate g next) = keeps (gate g) (drop next s)
+seen-gate-line s (gate-line.Refused r l) = fails r
 
 -- the place moves forward and stays within the text; a refusal has the line's number, counted from 1
-abbrev pub circuit-line-ahead : List ℕ → ℕ → ℕ → CircuitLine → Type 0
-circuit-line-ahead s at before (circuit-line.Gate g next) = (at < next) × (next ≤ length s)
-circuit-line-ahead s at before (circuit-line.Refused r l) = l ≡ before + 2
+abbrev pub gate-line-ahead : List ℕ → ℕ → ℕ → GateLine → Type 0
+gate-line-ahead s at before (gate-line.Gate g next) = (at < next) × (next ≤ length s)
+gate-line-ahead s at before (gate-line.Refused r l) = l ≡ before + 2
 
 -- so the line at a place was judged, after any circuit c of `before` gates
-abbrev pub CircuitLineOf : List ℕ → ℕ → Head → ℕ → CircuitLine → Type 0
-CircuitLineOf s at h before r = (c : List Gate) → length c ≡ before → seen-circuit-line s r ≡ judge-line Circuit h before c (drop at s)
+abbrev pub GateLineOf : List ℕ → ℕ → Head → ℕ → GateLine → Type 0
+GateLineOf s at h before r = (c : List Gate) → length c ≡ before → seen-gate-line s r ≡ judge-line Circuit h before c (drop at s)
 
 -- the same of a line of a cascade, of whose controls cs there is what was gathered
-abbrev pub CascadeLineOf : List ℕ → ℕ → Head → ℕ → ℕ → Controls → MctAnswer → Type 0
-CascadeLineOf s at h before total a (mct-answer.Target t next) =
+abbrev pub MctLineOf : List ℕ → ℕ → Head → ℕ → ℕ → Controls → TargetLine → Type 0
+MctLineOf s at h before total a (target-line.Target t next) =
     (cs : List ℕ) × (a ≡ gathered cs) × ((c : List Gate) → length c ≡ total → keeps (mct cs t) (drop next s) ≡ judge-line Cascade h before c (drop at s))
-CascadeLineOf s at h before total a (mct-answer.Refused r l) = (c : List Gate) → length c ≡ total → fails r ≡ judge-line Cascade h before c (drop at s)
+MctLineOf s at h before total a (target-line.Refused r l) = (c : List Gate) → length c ≡ total → fails r ≡ judge-line Cascade h before c (drop at s)
 
-abbrev pub cascade-line-ahead : List ℕ → ℕ → ℕ → MctAnswer → Type 0
-cascade-line-ahead s at before (mct-answer.Target t next) = (at < next) × (next ≤ length s)
-cascade-line-ahead s at before (mct-answer.Refused r l) = l ≡ before + 2
+abbrev pub mct-line-ahead : List ℕ → ℕ → ℕ → TargetLine → Type 0
+mct-line-ahead s at before (target-line.Target t next) = (at < next) × (next ≤ length s)
+mct-line-ahead s at before (target-line.Refused r l) = l ≡ before + 2

@@ -1,39 +1,29 @@
-// Loads a text: judges it line by line, and leaves the reduced list of its circuit as gate codes in a lent slice.
+// Loads a text: judges it line by line, and leaves its circuit, as read or expanded, as gate codes in a lent slice.
 use gates::Gate;
 use reader::Reader;
 use reading::Controls;
-use reading::GateLine;
-use reading::HeadLine;
-use reading::MctEnd;
+use reading::GateForm;
+use reading::HeadForm;
+use reading::TargetForm;
 use text::Head;
 use text::Kind;
 use text::Refusal;
 ghost use mathlib.Core.Path.{_≡_};
 ghost use mathlib.Core.Bool.{false, _&&_, _||_};
-ghost use mathlib.Core.List.{[]};
 ghost use Prim.Native.Nat.{_+_, _≤_};
 ghost use lib.Dec.{eqb, leb};
 ghost use lib.ListN.{length, drop, getD};
-ghost use Rattle.text.specs.Reading.{cut};
 ghost use Rattle.text.specs.declared.Kind.the-variants.{Cascade, Circuit};
-ghost use Rattle.text.specs.Judging.{judge, judge-lines, read-all};
-ghost use Rattle.loading.specs.Seen.{seen-verdict, tried, over, GateVerdict, MctVerdict, HeadLineOf, CircuitLineOf, circuit-line-ahead, CascadeLineOf, cascade-line-ahead};
-ghost use Rattle.loading.specs.Loaded.{LoadsTo, controls-of, Addable, Added};
+ghost use Rattle.text.specs.Judging.{judge};
+ghost use Rattle.cascades.specs.Expansion.{expansion};
+ghost use Rattle.expansion.specs.Written.{Written};
+ghost use Rattle.loading.specs.Seen.{seen-verdict, tried, over, GateVerdict, MctVerdict, HeadLineOf, GateLineOf, gate-line-ahead, MctLineOf, mct-line-ahead};
+ghost use Rattle.loading.specs.Loaded.{LoadsTo, standing, refused-at, Begun, Ready, Taken, controls-of, ExpansionFits};
 
 // What the rules say of a line in form.
 pub enum Verdict {
     Keeps,
     Breaks(Refusal),
-}
-
-// Whether one of two tests is met.
-fn either(a: bool, b: bool) -> bool
-    ensures { λ r. ⌜ r ≡ (a || b) ⌝ }
-{
-    if a {
-        return true;
-    }
-    b
 }
 
 // Rules 4 to 9, tried in document 01's order.
@@ -76,10 +66,7 @@ fn gate_rules(head: Head, g: Gate, before: usize) -> Verdict
     let many = 4096 <= before;
     match g {
         Gate::Not(t) => try_rules(n <= t, false, true, false, false, many),
-        Gate::Powered(_, c, t) => {
-            let outside = either(n <= t, n <= c);
-            try_rules(outside, t == c, true, false, false, many)
-        }
+        Gate::Powered(_, c, t) => { try_rules(n <= t || n <= c, t == c, true, false, false, many) }
     }
 }
 
@@ -126,7 +113,7 @@ fn mct_rules(head: Head, t: u8, a: Controls, before: usize, total: usize) -> Ver
 {
     let n = head.lines;
     let k = a.count;
-    let outside = either(n <= t, n <= a.largest);
+    let outside = n <= t || n <= a.largest;
     let marks = a.marks;
     let crossed = marked(marks, t);
     let spareless = no_spare(n, k);
@@ -135,139 +122,143 @@ fn mct_rules(head: Head, t: u8, a: Controls, before: usize, total: usize) -> Ver
 }
 
 // The line answer of a circuit: its gate and the place after it, or a refusal and its line.
-pub enum CircuitLine {
+pub enum GateLine {
     Gate(Gate, usize),
     Refused(Refusal, usize),
 }
 
 // The line of a circuit at a place, after `before` gates.
-fn circuit_line(s: &[u8], at: usize, head: Head, before: usize) -> CircuitLine
+fn gate_line(s: &[u8], at: usize, head: Head, before: usize) -> GateLine
     requires { ⌜ at ≤ length (now s) ⌝ }
     requires { ⌜ before ≤ 4096 ⌝ }
-    ensures { λ r. ⌜ CircuitLineOf (now (s .entry)) at head before r ⌝ }
-    ensures { λ r. ⌜ circuit-line-ahead (now (s .entry)) at before r ⌝ }
+    ensures { λ r. ⌜ GateLineOf (now (s .entry)) at head before r ⌝ }
+    ensures { λ r. ⌜ gate-line-ahead (now (s .entry)) at before r ⌝ }
 {
-    let GateLine::Is(g, next) = reading::read_gate(s, at) else {
-        return CircuitLine::Refused(Refusal::Malformed, before + 2);
+    let GateForm::Is(g, next) = reading::read_gate(s, at) else {
+        return GateLine::Refused(Refusal::Malformed, before + 2);
     };
     let Verdict::Breaks(r) = gate_rules(head, g, before) else {
-        return CircuitLine::Gate(g, next);
+        return GateLine::Gate(g, next);
     };
-    CircuitLine::Refused(r, before + 2)
+    GateLine::Refused(r, before + 2)
 }
 
 // The line answer of a cascade: its target and the place after it, or a refusal and its line.
-pub enum MctAnswer {
+pub enum TargetLine {
     Target(u8, usize),
     Refused(Refusal, usize),
 }
 
-// An answer beside what was gathered of the controls.
-pub struct CascadeLine {
-    pub answer: MctAnswer,
+// The same beside what was gathered of the controls.
+pub struct MctLine {
+    pub target: TargetLine,
     pub controls: Controls,
 }
 
 // The line of a cascade at a place, after `before` mct gates whose expansions have `total` gates.
-fn cascade_line(s: &[u8], at: usize, head: Head, before: usize, total: usize) -> CascadeLine
+fn mct_line(s: &[u8], at: usize, head: Head, before: usize, total: usize) -> MctLine
     requires { ⌜ at ≤ length (now s) ⌝ }
     requires { ⌜ (1 ≤ head .lines) × (head .lines ≤ 32) ⌝ }
     requires { ⌜ (before ≤ 256) × (total ≤ 4096) ⌝ }
-    ensures { λ r. ⌜ CascadeLineOf (now (s .entry)) at head before total (r .controls) (r .answer) ⌝ }
-    ensures { λ r. ⌜ cascade-line-ahead (now (s .entry)) at before (r .answer) ⌝ }
+    ensures { λ r. ⌜ MctLineOf (now (s .entry)) at head before total (r .controls) (r .target) ⌝ }
+    ensures { λ r. ⌜ mct-line-ahead (now (s .entry)) at before (r .target) ⌝ }
 {
     let line = reading::read_mct(s, at);
     let controls = line.controls;
-    let end = line.end;
-    let MctEnd::Target(t, next) = end else {
-        return CascadeLine {
-            answer: MctAnswer::Refused(Refusal::Malformed, before + 2),
+    let target = line.target;
+    let TargetForm::Is(t, next) = target else {
+        return MctLine {
+            target: TargetLine::Refused(Refusal::Malformed, before + 2),
             controls,
         };
     };
     let Verdict::Breaks(r) = mct_rules(head, t, controls, before, total) else {
-        return CascadeLine {
-            answer: MctAnswer::Target(t, next),
+        return MctLine {
+            target: TargetLine::Target(t, next),
             controls,
         };
     };
-    CascadeLine {
-        answer: MctAnswer::Refused(r, before + 2),
+    MctLine {
+        target: TargetLine::Refused(r, before + 2),
         controls,
     }
 }
 
-// A text that was judged: its head, and how many codes its reduced list has; or a refusal and its line.
+// What a text is judged to be: accepted, with its head and the number of codes of its circuit; or refused, with the line.
 pub enum Loaded {
     Accepted(Head, usize),
     Refused(Refusal, usize),
 }
 
-// Loads the lines of a circuit after line 1.
-fn load_gates(s: &[u8], from: usize, head: Head, list: &mut [u16]) -> Loaded
-    requires { ⌜ from ≤ length (now s) ⌝ }
-    requires { ⌜ (1 ≤ head .lines) × (head .lines ≤ 32) ⌝ }
-    requires { ⌜ 4162 ≤ length (now list) ⌝ }
-    ensures { λ r. ⌜ LoadsTo (judge-lines Circuit head 0 [] (read-all (cut (drop from (now (s .entry)))))) (now (list .exit)) r ⌝ }
-{
-    let mut at = from;
-    let mut before = 0;
-    let mut n = 0;
-    while at < s.len() {
-        match circuit_line(s, at, head, before) {
-            CircuitLine::Gate(g, next) => {
-                n = reduction::push(list, n, gates::encode(g));
-                at = next;
-                before += 1;
-            }
-            CircuitLine::Refused(r, l) => {
-                return Loaded::Refused(r, l);
-            }
-        }
-    }
-    Loaded::Accepted(head, n)
+// Where the loading of a text stands between two lines: the place after the line that was read last, how many gate lines were taken, and what
+// the text is so far. A refused text is read no further: its place is the text's end.
+pub struct Progress {
+    pub place: usize,
+    pub lines: usize,
+    pub loaded: Loaded,
 }
 
-// Expands an mct gate behind the first n codes, and pushes the gates of its expansion onto them.
-fn add_mct(head: Head, t: u8, a: Controls, list: &mut [u16], n: usize) -> usize
+// The text, whose end is this place, is refused.
+fn refused(end: usize, r: Refusal, line: usize) -> Progress
+    ensures { λ p. ⌜ p ≡ refused-at end r line ⌝ }
+{
+    Progress {
+        place: end,
+        lines: 0,
+        loaded: Loaded::Refused(r, line),
+    }
+}
+
+// The line of a circuit at a place, after n gates: its gate becomes code n.
+fn next_gate(s: &[u8], at: usize, head: Head, n: usize, list: &mut [u16]) -> Progress
+    requires { ⌜ Ready Circuit (now s) at (standing at n head n) (now list) ⌝ }
+    ensures { λ p. ⌜ Taken Circuit (now (s .entry)) at (standing at n head n) (now (list .entry)) p (now (list .exit)) ⌝ }
+{
+    let end = s.len();
+    match gate_line(s, at, head, n) {
+        GateLine::Gate(g, next) => {
+            list[n] = gates::encode(g);
+            Progress {
+                place: next,
+                lines: n + 1,
+                loaded: Loaded::Accepted(head, n + 1),
+            }
+        }
+        GateLine::Refused(r, line) => refused(end, r, line),
+    }
+}
+
+// The expansion of an mct gate, from code m on.
+fn expand_mct(head: Head, t: u8, a: Controls, list: &mut [u16], m: usize) -> usize
     requires { ⌜ a .count ≤ length (a .listed) ⌝ }
-    requires { ⌜ Addable head t (controls-of a) (now list) n ⌝ }
-    ensures { λ r. ⌜ Added head t (controls-of a) (now (list .entry)) n r (now (list .exit)) ⌝ }
+    requires { ⌜ ExpansionFits head t (controls-of a) m (length (now list)) ⌝ }
+    ensures { λ r. ⌜ Written (expansion (head .lines) (controls-of a) t) (now (list .entry)) m (now (list .exit)) r ⌝ }
 {
     let listed = a.listed;
     let k = a.count;
-    let m = expansion::expand(head.lines, &listed[..k], t, list, n);
-    reduction::push_all(list, n, m)
+    expansion::expand(head.lines, &listed[..k], t, list, m)
 }
 
-// Loads the lines of a cascade after line 1.
-fn load_mcts(s: &[u8], from: usize, head: Head, list: &mut [u16]) -> Loaded
-    requires { ⌜ from ≤ length (now s) ⌝ }
-    requires { ⌜ (1 ≤ head .lines) × (head .lines ≤ 32) ⌝ }
-    requires { ⌜ 4162 ≤ length (now list) ⌝ }
-    ensures { λ r. ⌜ LoadsTo (judge-lines Cascade head 0 [] (read-all (cut (drop from (now (s .entry)))))) (now (list .exit)) r ⌝ }
+// The line of a cascade at a place, after `before` mct gates whose expansions are the first m codes: its own expansion stands behind them.
+fn next_mct(s: &[u8], at: usize, head: Head, before: usize, m: usize, list: &mut [u16]) -> Progress
+    requires { ⌜ Ready Cascade (now s) at (standing at before head m) (now list) ⌝ }
+    ensures { λ p. ⌜ Taken Cascade (now (s .entry)) at (standing at before head m) (now (list .entry)) p (now (list .exit)) ⌝ }
 {
-    let mut at = from;
-    let mut before = 0;
-    let mut total = 0;
-    let mut kept = 0;
-    while at < s.len() {
-        let line = cascade_line(s, at, head, before, total);
-        let answer = line.answer;
-        let controls = line.controls;
-        match answer {
-            MctAnswer::Target(t, after) => {
-                kept = add_mct(head, t, controls, list, kept);
-                total += expansion::count(controls.count);
-                at = after;
-                before += 1;
-            }
-            MctAnswer::Refused(r, l) => {
-                return Loaded::Refused(r, l);
+    let end = s.len();
+    let line = mct_line(s, at, head, before, m);
+    let target = line.target;
+    let controls = line.controls;
+    match target {
+        TargetLine::Target(t, after) => {
+            let n = expand_mct(head, t, controls, list, m);
+            Progress {
+                place: after,
+                lines: before + 1,
+                loaded: Loaded::Accepted(head, n),
             }
         }
+        TargetLine::Refused(r, line) => refused(end, r, line),
     }
-    Loaded::Accepted(head, kept)
 }
 
 // Whether a head names 1 to 32 lines.
@@ -282,61 +273,74 @@ fn in_range(head: Head) -> bool
 }
 
 // Line 1 of a text: its head and the place after it, or a refusal and its line.
-pub enum HeadAnswer {
+pub enum HeadLine {
     Head(Head, usize),
     Refused(Refusal, usize),
 }
 
 // Line 1 of a text, at a place.
-fn head_line(s: &[u8], at: usize) -> HeadAnswer
+fn head_line(s: &[u8], at: usize) -> HeadLine
     requires { ⌜ at ≤ length (now s) ⌝ }
     ensures { λ r. ⌜ HeadLineOf (now (s .entry)) at r ⌝ }
 {
-    let HeadLine::Is(head, next) = reading::read_head(s, at) else {
-        return HeadAnswer::Refused(Refusal::Malformed, 1);
+    let HeadForm::Is(head, next) = reading::read_head(s, at) else {
+        return HeadLine::Refused(Refusal::Malformed, 1);
     };
     if !in_range(head) {
-        return HeadAnswer::Refused(Refusal::NoSuchLine, 1);
+        return HeadLine::Refused(Refusal::NoSuchLine, 1);
     }
-    HeadAnswer::Head(head, next)
+    HeadLine::Head(head, next)
 }
 
-// Loads the lines of a text of a kind after line 1.
-fn load_lines(kind: Kind, s: &[u8], from: usize, head: Head, list: &mut [u16]) -> Loaded
-    requires { ⌜ from ≤ length (now s) ⌝ }
-    requires { ⌜ (1 ≤ head .lines) × (head .lines ≤ 32) ⌝ }
-    requires { ⌜ 4162 ≤ length (now list) ⌝ }
-    ensures { λ r. ⌜ LoadsTo (judge-lines kind head 0 [] (read-all (cut (drop from (now (s .entry)))))) (now (list .exit)) r ⌝ }
+// Line 1 of a text, at a place.
+fn first_line(s: &[u8], at: usize) -> Progress
+    requires { ⌜ at ≤ length (now s) ⌝ }
+    ensures { λ p. ⌜ Begun (now (s .entry)) at p ⌝ }
 {
-    reduction::clear_bounds(&mut list[4096..4162]);
-    match kind {
-        Kind::Cascade => load_mcts(s, from, head, list),
-        Kind::Circuit => load_gates(s, from, head, list),
-    }
-}
-
-// Judges the text of a kind from a place on, and leaves the codes of its circuit's reduced list at the front of the list.
-fn text_at(kind: Kind, s: &[u8], at: usize, list: &mut [u16]) -> Loaded
-    requires { ⌜ (at ≤ length (now s)) × (4162 ≤ length (now list)) ⌝ }
-    ensures { λ r. ⌜ LoadsTo (judge kind (drop at (now (s .entry)))) (now (list .exit)) r ⌝ }
-{
+    let end = s.len();
     match head_line(s, at) {
-        HeadAnswer::Head(head, next) => load_lines(kind, s, next, head, list),
-        HeadAnswer::Refused(r, l) => Loaded::Refused(r, l),
+        HeadLine::Head(head, next) => Progress {
+            place: next,
+            lines: 0,
+            loaded: Loaded::Accepted(head, 0),
+        },
+        HeadLine::Refused(r, line) => refused(end, r, line),
+    }
+}
+
+// The line at a place, where the loading of a text of a kind stands at p.
+fn next_line(kind: Kind, s: &[u8], at: usize, p: Progress, list: &mut [u16]) -> Progress
+    requires { ⌜ Ready kind (now s) at p (now list) ⌝ }
+    ensures { λ q. ⌜ Taken kind (now (s .entry)) at p (now (list .entry)) q (now (list .exit)) ⌝ }
+{
+    let so_far = p.loaded;
+    let Loaded::Accepted(head, m) = so_far else {
+        return p;
+    };
+    match kind {
+        Kind::Cascade => next_mct(s, at, head, p.lines, m, list),
+        Kind::Circuit => next_gate(s, at, head, m, list),
     }
 }
 
 // Loads a text of a kind from where a reader stands.
 fn text_from<'a>(kind: Kind, r: Reader<'a>, list: &mut [u16]) -> Loaded
-    requires { ⌜ (r .place ≤ length (now (r .text))) × (4162 ≤ length (now list)) ⌝ }
+    requires { ⌜ (r .place ≤ length (now (r .text))) × (4096 ≤ length (now list)) ⌝ }
     ensures { λ o. ⌜ LoadsTo (judge kind (drop (r .entry .place) (now (r .entry .text)))) (now (list .exit)) o ⌝ }
 {
-    text_at(kind, r.text, r.place, list)
+    let mut r = r;
+    let mut p = first_line(r.text, r.place);
+    r = reader::moved(r, p.place);
+    while r.place < r.text.len() {
+        p = next_line(kind, r.text, r.place, p, list);
+        r = reader::moved(r, p.place);
+    }
+    p.loaded
 }
 
-// Judges a text of a kind, and leaves the codes of its circuit's reduced list, read or expanded, at the front of the list.
+// Judges a text of a kind, and leaves the codes of its circuit, as read or expanded, at the front of the list.
 pub fn load(kind: Kind, s: &[u8], list: &mut [u16]) -> Loaded
-    requires { ⌜ 4162 ≤ length (now list) ⌝ }
+    requires { ⌜ 4096 ≤ length (now list) ⌝ }
     ensures { λ r. ⌜ LoadsTo (judge kind (now (s .entry))) (now (list .exit)) r ⌝ }
 {
     text_from(kind, reader::new(s), list)

@@ -1,4 +1,4 @@
-// Maps the cascade text on standard input to a circuit text.
+// Maps a cascade text, of the file named or else on standard input, to a circuit text.
 use console::Job;
 
 fn main() {

@@ -53,9 +53,6 @@ same-matrix-sym n a b e y x = sym (e y x)
 pub linked-matrix : (n : ℕ) {c d : List Gate} → Linked n c d → SameMatrix n c d
 linked-matrix n {c} {d} l = states-matrix n c d (linked-states n l)
 
--- a reduced list has the matrix of its circuit, and does the same to every state
-pub reduced-states : (n : ℕ) {c r : List Gate} → Reduced n c r → SameOnStates c r
-reduced-states n w = linked-states n (w .linked)
-
+-- a reduced list has the matrix of its circuit
 pub reduced-matrix : (n : ℕ) {c r : List Gate} → Reduced n c r → SameMatrix n c r
 reduced-matrix n w = linked-matrix n (w .linked)

@@ -1,9 +1,9 @@
 -- Laws of amplitudes: sums and products as in every ring, products of the four doubled matrices, and 2^m times. Assumes nothing.
 use mathlib.Core.Path.{_≡_, refl, sym, _∙_, ap}
-use Prim.Native.Nat.{ℕ, zero, suc, _+_, _<_, _%_}
+use Prim.Native.Nat.{ℕ, zero, suc, _+_, _<_, _%_, _^_}
 use native.Mathlib.Omega.{arith}
-use native.Mathlib.Nat.{zero-add, suc-add}
-use lib.IntN.{ℤ, negℤ, _+ℤ_, _*ℤ_, +ℤ-comm, +ℤ-assoc, +ℤ-idl, +ℤ-idr, negℤ-+ℤ, *ℤ-comm, *ℤ-one, *ℤ-zero, one as one-ℤ}
+use native.Mathlib.Nat.{zero-add, suc-add, two-pow-succ}
+use lib.IntN.{ℤ, pos, negℤ, _+ℤ_, _*ℤ_, +ℤ-comm, +ℤ-assoc, +ℤ-idl, +ℤ-idr, negℤ-+ℤ, *ℤ-comm, *ℤ-one, *ℤ-zero, one as one-ℤ}
 use Rattle.meaning.specs.Amplitude.{Amplitude, one, nought, _⊕_, _⊗_, doubled, diagonal, off-diagonal, mix}
 use Rattle.meaning.proofs.Whole.{_⊖_, split, same, whole, zero-is, two-is, halve}
 
@@ -136,6 +136,12 @@ unfolding mix diagonal off-diagonal
 mix-two a b = ⊕-comm (diagonal 2 ⊗ a) (off-diagonal 2 ⊗ b) ∙ two-and-nought (off-diagonal 2) (diagonal 2) b a two-is zero-is zero-is zero-is
 
 -- ---- 2^m times
+
+-- "After m powered gates amplitude 1 is the number 2^m"
+pub amplitude-one : (m : ℕ) → doubled m one ≡ record { re = pos (2 ^ m); im = pos 0 }
+unfolding doubled _⊕_
+amplitude-one zero = refl
+amplitude-one (suc m) = rw (amplitude-one m, two-pow-succ m)
 
 pub doubled-⊕ : (m : ℕ) (a b : Amplitude) → doubled m (a ⊕ b) ≡ doubled m a ⊕ doubled m b
 unfolding doubled

@@ -40,9 +40,6 @@ unfolding agree
 is-agree zero x y h = refl
 is-agree (suc n) x y h = rw (same-beq (x n) (y n) (h n (omega arith)), is-agree n x y (λ i k. h i (omega arith)))
 
-pub agree-refl : (n : ℕ) (x : Pattern) → agree n x x ≡ true
-agree-refl n x = is-agree n x x (λ i h. refl)
-
 pub agree-sym : (n : ℕ) (x y : Pattern) → agree n x y ≡ true → agree n y x ≡ true
 agree-sym n x y e = is-agree n y x (λ i h. sym (agree-is n x y e i h))
 

@@ -24,7 +24,7 @@ infixl 7 _⊗_
 unfoldable pub _⊗_ : Amplitude → Amplitude → Amplitude
 a ⊗ b = record { re = a .re *ℤ b .re -ℤ a .im *ℤ b .im; im = a .re *ℤ b .im +ℤ a .im *ℤ b .re }
 
--- 2^m times an amplitude: "After m powered gates amplitude 1 is the number 2^m", which is `doubled m one`
+-- 2^m times an amplitude; `doubled m one` is the number 2^m (proofs/Mixing: amplitude-one)
 unfoldable pub doubled : ℕ → Amplitude → Amplitude
 doubled zero a = a
 doubled (suc m) a = doubled m a ⊕ doubled m a

@@ -10,7 +10,7 @@ use Rattle.meaning.specs.Pattern.{Pattern, flip, agree}
 
 -- ---- states
 
--- a "state gives each of the bit patterns an amplitude"
+-- "A state gives each of the 2^n bit patterns an amplitude": here a pattern has a bit for every line, and those from n on make no difference
 abbrev pub State : Type 0
 State = Pattern → Amplitude
 

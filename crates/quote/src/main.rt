@@ -1,4 +1,4 @@
-// Quotes the gate count of the cascade text on standard input.
+// Quotes the gate count of a cascade text, of the file named or else on standard input.
 use console::Job;
 
 fn main() {

@@ -9,7 +9,7 @@ use borrow.Author.Tests.{eq-eqb, eqb-true}
 use Rattle.gates.specs.declared.Gate.{Gate}
 use Rattle.gates.specs.declared.Gate.the-variants.{Not, Powered}
 use Rattle.text.specs.Text.{Form, lines, gate, mct, bytes}
-use Rattle.text.specs.Reading.{Got, got, none, bind, orElse, strip, num, tail, pair, control, list, many, lines-body, not-body, mct-body, powered-body, parse}
+use Rattle.text.specs.Reading.{Got, got, none, bind, if-got, strip, num, tail, pair, control, list, many, lines-body, not-body, mct-body, powered-body, parse}
 use Rattle.reading.specs.declared.Controls.{Controls}
 use Rattle.reading.specs.Seen.{only-head, only-gate, only-mct, gathered, all-gathered, with-gathered, delimited, two-after, or-powered}
 
@@ -49,12 +49,12 @@ Rows B = List (List ℕ × (List ℕ → Got B))
 -- the first word that fits decides
 by-word : {B : Type 0} → Rows B → List ℕ → Got B
 by-word [] s = none
-by-word (x ∷ t) s = orElse (strip (x .0) s) (λ _. x .1) (by-word t s)
+by-word (x ∷ t) s = if-got (strip (x .0) s) (λ _. x .1) (by-word t s)
 
 -- the first word that fits with what stands after it
 by-line : {B : Type 0} → Rows B → List ℕ → Got B
 by-line [] s = none
-by-line (x ∷ t) s = orElse (bind (strip (x .0) s) (λ _. x .1)) got (by-line t s)
+by-line (x ∷ t) s = if-got (bind (strip (x .0) s) (λ _. x .1)) got (by-line t s)
 
 others : {B : Type 0} → List ℕ → Rows B → Bool
 others w [] = true
@@ -71,7 +71,7 @@ no-other w s r (x ∷ t) e d =
     let h = and-eq-true-iff (differ w (x .0)) (others w t) .0 d in
     rw (strip-differ w (x .0) s r (h .0) e) (no-other w s r t e (h .1))
 
-or-none : {B : Type 0} (g : Got B) → orElse g got none ≡ g
+or-none : {B : Type 0} (g : Got B) → if-got g got none ≡ g
 or-none (got b s) = refl
 or-none none = refl
 
@@ -82,7 +82,7 @@ word-line (x ∷ t) s d =
     let h = and-eq-true-iff (others (x .0) t) (apart t) .0 d in
     go (word-line t s (h .1)) (h .0) (strip (x .0) s) refl
   where
-    go : by-word t s ≡ by-line t s → others (x .0) t ≡ true → (g : Got (Unit {0})) → strip (x .0) s ≡ g → orElse g (λ _. x .1) (by-word t s) ≡ orElse (bind g (λ _. x .1)) got (by-line t s)
+    go : by-word t s ≡ by-line t s → others (x .0) t ≡ true → (g : Got (Unit {0})) → strip (x .0) s ≡ g → if-got g (λ _. x .1) (by-word t s) ≡ if-got (bind g (λ _. x .1)) got (by-line t s)
     go h d none e = h
     go h d (got tt r) e = rw (no-other (x .0) s r t e d) (sym (or-none (x .1 r)))
 
@@ -102,17 +102,17 @@ pub two-delimited : (w s : List ℕ) → two-after w s ≡ bind (delimited w [] 
 unfolding two-after pair tail delimited strip
 two-delimited w s = sym (steps _ (strip w s) _ _ (λ _ r. steps _ (num r) _ _ (λ c q. steps _ (strip (bytes " ") q) _ _ (λ _ e. refl))))
 
-pub control-delimited : (s : List ℕ) → control s ≡ orElse {B = ℕ × Bool} (delimited [] (bytes " ") s) (λ c. got (c, true)) (bind (delimited [] (bytes ")") s) (λ c. got (c, false)))
+pub control-delimited : (s : List ℕ) → control s ≡ if-got {B = ℕ × Bool} (delimited [] (bytes " ") s) (λ c. got (c, true)) (bind (delimited [] (bytes ")") s) (λ c. got (c, false)))
 unfolding control delimited strip
 control-delimited s = go (num s)
   where
-    ends : (c : ℕ) (g h : Got (Unit {0})) → orElse {B = ℕ × Bool} g (λ _. got (c, true)) (bind h (λ _. got (c, false))) ≡ orElse (bind g (λ _. got c)) (λ d. got (d, true)) (bind (bind h (λ _. got c)) (λ d. got (d, false)))
+    ends : (c : ℕ) (g h : Got (Unit {0})) → if-got {B = ℕ × Bool} g (λ _. got (c, true)) (bind h (λ _. got (c, false))) ≡ if-got (bind g (λ _. got c)) (λ d. got (d, true)) (bind (bind h (λ _. got c)) (λ d. got (d, false)))
     ends c (got a r) h = refl
     ends c none (got a r) = refl
     ends c none none = refl
 
-    go : (g : Got ℕ) → bind {B = ℕ × Bool} g (λ c r. orElse (strip (bytes " ") r) (λ _. got (c, true)) (bind (strip (bytes ")") r) (λ _. got (c, false))))
-        ≡ orElse (bind g (λ c r. bind (strip (bytes " ") r) (λ _. got c))) (λ c. got (c, true)) (bind (bind g (λ c r. bind (strip (bytes ")") r) (λ _. got c))) (λ c. got (c, false)))
+    go : (g : Got ℕ) → bind {B = ℕ × Bool} g (λ c r. if-got (strip (bytes " ") r) (λ _. got (c, true)) (bind (strip (bytes ")") r) (λ _. got (c, false))))
+        ≡ if-got (bind g (λ c r. bind (strip (bytes " ") r) (λ _. got c))) (λ c. got (c, true)) (bind (bind g (λ c r. bind (strip (bytes ")") r) (λ _. got c))) (λ c. got (c, false)))
     go (got c r) = ends c (strip (bytes " ") r) (strip (bytes ")") r)
     go none = refl
 
@@ -139,11 +139,11 @@ module _ {B : Type 0} (only : Got Form → Got B) (missing : only none ≡ none)
   body : {A : Type 0} (p : List ℕ → Got A) (form : A → Form) (s : List ℕ) → only (bind (p s) (λ a. got (form a))) ≡ kept p form s
   body p form s = below only missing (p s) _ _ (λ a r. refl)
 
-  row : {A : Type 0} (g : Got (Unit {0})) (p : List ℕ → Got A) (form : A → Form) {z : Got Form} {y : Got B} → only z ≡ y → only (orElse g (λ _ s. bind (p s) (λ a. got (form a))) z) ≡ orElse g (λ _. kept p form) y
+  row : {A : Type 0} (g : Got (Unit {0})) (p : List ℕ → Got A) (form : A → Form) {z : Got Form} {y : Got B} → only z ≡ y → only (if-got g (λ _ s. bind (p s) (λ a. got (form a))) z) ≡ if-got g (λ _. kept p form) y
   row (got a s) p form h = body p form s
   row none p form h = h
 
-  last-row : {A : Type 0} (g : Got (Unit {0})) (p : List ℕ → Got A) (form : A → Form) → only (bind g (λ _ s. bind (p s) (λ a. got (form a)))) ≡ orElse g (λ _. kept p form) none
+  last-row : {A : Type 0} (g : Got (Unit {0})) (p : List ℕ → Got A) (form : A → Form) → only (bind g (λ _ s. bind (p s) (λ a. got (form a)))) ≡ if-got g (λ _. kept p form) none
   last-row (got a s) p form = body p form s
   last-row none p form = missing
 
@@ -159,29 +159,29 @@ module _ {B : Type 0} (only : Got Form → Got B) (missing : only none ≡ none)
       ∙ word-line rows s refl
 
 -- a row of another kind
-other-row : {A B : Type 0} (g : Got (Unit {0})) (p : List ℕ → Got A) (z : Got B) → orElse (bind g (λ _ s. bind {B = B} (p s) (λ _ _. none))) got z ≡ z
+other-row : {A B : Type 0} (g : Got (Unit {0})) (p : List ℕ → Got A) (z : Got B) → if-got (bind g (λ _ s. bind {B = B} (p s) (λ _ _. none))) got z ≡ z
 other-row {A} {B} (got a s) p z = go (p s)
   where
-    go : (h : Got A) → orElse (bind {B = B} h (λ _ _. none)) got z ≡ z
+    go : (h : Got A) → if-got (bind {B = B} h (λ _ _. none)) got z ≡ z
     go (got a r) = refl
     go none = refl
 other-row none p z = refl
 
 -- a row of the kind
-own-row : {A B : Type 0} (g : Got (Unit {0})) (p : List ℕ → Got A) (k : A → B) (z : Got B) → orElse (bind g (λ _ s. bind (p s) (λ a. got (k a)))) got z ≡ orElse (bind g (λ _. p)) (λ a. got (k a)) z
+own-row : {A B : Type 0} (g : Got (Unit {0})) (p : List ℕ → Got A) (k : A → B) (z : Got B) → if-got (bind g (λ _ s. bind (p s) (λ a. got (k a)))) got z ≡ if-got (bind g (λ _. p)) (λ a. got (k a)) z
 own-row {A} (got a s) p k z = go (p s)
   where
-    go : (h : Got A) → orElse (bind h (λ a. got (k a))) got z ≡ orElse h (λ a. got (k a)) z
+    go : (h : Got A) → if-got (bind h (λ a. got (k a))) got z ≡ if-got h (λ a. got (k a)) z
     go (got a r) = refl
     go none = refl
 own-row none p k z = refl
 
-pub head-is : (s : List ℕ) → only-head (parse s) ≡ orElse (delimited (bytes "(lines ") (bytes ")\n") s) (λ n. got (record { lines = n })) none
+pub head-is : (s : List ℕ) → only-head (parse s) ≡ if-got (delimited (bytes "(lines ") (bytes ")\n") s) (λ n. got (record { lines = n })) none
 unfolding only-head by-line rows delimited tail
 head-is s = only-parse only-head refl s ∙ simp (other-row, own-row)
 
 -- three rows of the kind, the first got before the others are tried
-in-turn : {B : Type 0} (x y z : Got B) → orElse x got (orElse y got (orElse z got none)) ≡ orElse (orElse x got y) got z
+in-turn : {B : Type 0} (x y z : Got B) → if-got x got (if-got y got (if-got z got none)) ≡ if-got (if-got x got y) got z
 in-turn (got a s) y z = refl
 in-turn none (got a s) z = refl
 in-turn none none z = or-none z
@@ -198,13 +198,13 @@ module _ (s : List ℕ) where
   unfolding two-after
   row-read w p = sym (steps _ (strip w s) _ _ (λ _ r. refl))
 
-  pub gate-is : only-gate (parse s) ≡ orElse (delimited (bytes "(not ") (bytes ")\n") s) (λ t. got (Not t)) (or-powered (or-powered (or-powered none (bytes "(cn ") 2 s) (bytes "(v ") 1 s) (bytes "(vp ") 3 s)
+  pub gate-is : only-gate (parse s) ≡ if-got (delimited (bytes "(not ") (bytes ")\n") s) (λ t. got (Not t)) (or-powered (or-powered (or-powered none (bytes "(cn ") 2 s) (bytes "(v ") 1 s) (bytes "(vp ") 3 s)
   unfolding only-gate by-line rows delimited tail or-powered
   gate-is =
       only-parse only-gate refl s
       ∙ simp other-row
       (own-row (strip (bytes "(not ") s) tail Not _
-      ∙ ap (λ (z : Got Gate). orElse (bind (strip (bytes "(not ") s) (λ _. tail)) (λ t. got (Not t)) z)
+      ∙ ap (λ (z : Got Gate). if-got (bind (strip (bytes "(not ") s) (λ _. tail)) (λ t. got (Not t)) z)
       (in-turn (powered-row (bytes "(cn ") 2) (powered-row (bytes "(v ") 1) (powered-row (bytes "(vp ") 3) ∙ rw (row-read (bytes "(cn ") 2, row-read (bytes "(v ") 1, row-read (bytes "(vp ") 3)))
 
 many-gathered : (s : List ℕ) → bind {B = Controls × ℕ} (many s) (λ p. got (gathered (p .0), p .1)) ≡ bind (all-gathered (list s)) (λ a r. bind (delimited (bytes " ") (bytes ")\n") r) (λ t. got (a, t)))

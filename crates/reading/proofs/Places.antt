@@ -1,11 +1,12 @@
 -- The parser of text's Reading at a place of a text: numbers and words, byte by byte. Assumes nothing.
 use mathlib.Core.Path.{_≡_, refl, sym, ap, _∙_}
 use mathlib.Core.Bool.{Bool, true, false, cond, and-false}
-use mathlib.Core.List.{List}
+use mathlib.Core.List.{List, [], _∷_}
 use Prim.Native.Nat.{ℕ, suc, _+_, _-_, _*_, _≤_, _<_}
+use native.Mathlib.Nat.{not-suc-le-zero, le-of-suc-le-suc}
 use native.Mathlib.Numerals.{add-one}
 use native.Mathlib.Omega.{arith}
-use lib.ListN.{length, drop, getD, drop-of-length-le}
+use lib.ListN.{length, drop, getD, length-drop, drop-of-length-le}
 use lib.Seq.{drop-cons}
 use lib.Dec.{eqb, leb}
 use borrow.Author.Tests.{eq-eqb, ne-eqb, eqb-true, le-leb, lt-leb}
@@ -68,9 +69,19 @@ module _ (s : List ℕ) (at : ℕ) (h : at < length s) (l : 48 ≤ getD s at 0) 
 
 -- ---- words
 
-pub strip-end : (s w : List ℕ) (at k : ℕ) → k < length w → length s ≤ at + k → strip (drop k w) (drop (at + k) s) ≡ none
+-- a word that is longer than the text
+strip-longer : (w s : List ℕ) → length s < length w → strip w s ≡ none
 unfolding strip
-strip-end s w at k h g = rw (drop-cons w k 0 h, drop-of-length-le s g)
+strip-longer [] s h = absurd (not-suc-le-zero h)
+strip-longer (b ∷ w) [] h = refl
+strip-longer (b ∷ w) (a ∷ s) h = go (eqb a b) (strip-longer w s (le-of-suc-le-suc h))
+  where
+    go : (x : Bool) → strip w s ≡ none → cond x (strip w s) none ≡ none
+    go true e = e
+    go false e = refl
+
+pub strip-short : (s w : List ℕ) (at : ℕ) → length s - at < length w → strip w (drop at s) ≡ none
+strip-short s w at h = strip-longer w (drop at s) (omega (arith, length-drop at s))
 
 pub strip-other : (s w : List ℕ) (at k : ℕ) → k < length w → at + k < length s → (getD s (at + k) 0 ≡ getD w k 0 → ⊥) → strip (drop k w) (drop (at + k) s) ≡ none
 unfolding strip

@@ -1,4 +1,4 @@
--- What the reader's answers say, in the terms of the parser in text's Reading. Assumes nothing.
+-- What the cursor's answers say, in the terms of the parser in text's Reading. Assumes nothing.
 use mathlib.Core.Path.{_≡_}
 use Prim.Native.Nat.{ℕ, _+_, _≤_, _<_, max}
 use mathlib.Core.Bool.{Bool, true, false, _&&_, _||_}
@@ -9,7 +9,7 @@ use Rattle.gates.specs.declared.Gate.{Gate}
 use Rattle.gates.specs.declared.Gate.the-variants.{Powered}
 use Rattle.text.specs.declared.Head.{Head}
 use Rattle.text.specs.Text.{Form, lines, gate, mct}
-use Rattle.text.specs.Reading.{Got, got, none, bind, orElse, strip, num, pair}
+use Rattle.text.specs.Reading.{Got, got, none, bind, if-got, strip, num, pair}
 use Rattle.reading.specs.declared.Number.{Number}
 use Rattle.reading.specs.declared.Number.the-variants as number
 use Rattle.reading.specs.declared.Found.{Found}
@@ -19,13 +19,13 @@ use Rattle.reading.specs.declared.Pair.the-variants as two
 use Rattle.reading.specs.declared.Control.{Control}
 use Rattle.reading.specs.declared.Control.the-variants as control
 use Rattle.reading.specs.declared.Controls.{Controls}
-use Rattle.reading.specs.declared.GateLine.{GateLine}
-use Rattle.reading.specs.declared.GateLine.the-variants as gate-line
-use Rattle.reading.specs.declared.MctEnd.{MctEnd}
-use Rattle.reading.specs.declared.MctEnd.the-variants as mct-end
-use Rattle.reading.specs.declared.MctLine.{MctLine}
-use Rattle.reading.specs.declared.HeadLine.{HeadLine}
-use Rattle.reading.specs.declared.HeadLine.the-variants as head-line
+use Rattle.reading.specs.declared.GateForm.{GateForm}
+use Rattle.reading.specs.declared.GateForm.the-variants as gate-form
+use Rattle.reading.specs.declared.TargetForm.{TargetForm}
+use Rattle.reading.specs.declared.TargetForm.the-variants as target-form
+use Rattle.reading.specs.declared.MctForm.{MctForm}
+use Rattle.reading.specs.declared.HeadForm.{HeadForm}
+use Rattle.reading.specs.declared.HeadForm.the-variants as head-form
 
 -- ---- the forms of one kind of line
 
@@ -88,7 +88,7 @@ two-after w s = bind (strip w s) (λ _. pair)
 
 -- what was got before, else the gate of the power p after its word w
 unfoldable pub or-powered : Got Gate → List ℕ → ℕ → List ℕ → Got Gate
-or-powered before w p s = orElse before got (bind (two-after w s) (λ c. got (Powered p (c .0) (c .1))))
+or-powered before w p s = if-got before got (bind (two-after w s) (λ c. got (Powered p (c .0) (c .1))))
 
 -- ---- the place only moves forward and stays within the text
 
@@ -120,31 +120,31 @@ found-tells s at g a found.Missing = g ≡ none
 
 -- ---- the lines, over the text s: what was got, and the bytes after the place
 
-abbrev pub seen-head : List ℕ → HeadLine → Got Head
-seen-head s (head-line.Is h next) = got h (drop next s)
-seen-head s head-line.Malformed = none
+abbrev pub seen-head : List ℕ → HeadForm → Got Head
+seen-head s (head-form.Is h next) = got h (drop next s)
+seen-head s head-form.Malformed = none
 
-abbrev pub seen-gate : List ℕ → GateLine → Got Gate
-seen-gate s (gate-line.Is g next) = got g (drop next s)
-seen-gate s gate-line.Malformed = none
+abbrev pub seen-gate : List ℕ → GateForm → Got Gate
+seen-gate s (gate-form.Is g next) = got g (drop next s)
+seen-gate s gate-form.Malformed = none
 
-abbrev pub seen-end : List ℕ → MctEnd → Controls → Got (Controls × ℕ)
-seen-end s (mct-end.Target t next) a = got (a, t) (drop next s)
-seen-end s mct-end.Malformed a = none
+abbrev pub seen-target : List ℕ → TargetForm → Controls → Got (Controls × ℕ)
+seen-target s (target-form.Is t next) a = got (a, t) (drop next s)
+seen-target s target-form.Malformed a = none
 
-abbrev pub seen-mct : List ℕ → MctLine → Got (Controls × ℕ)
-seen-mct s l = seen-end s (l .end) (l .controls)
+abbrev pub seen-mct : List ℕ → MctForm → Got (Controls × ℕ)
+seen-mct s l = seen-target s (l .target) (l .controls)
 
 -- ---- where the lines end
 
-abbrev pub head-ahead : List ℕ → ℕ → HeadLine → Type 0
-head-ahead s at (head-line.Is h next) = ahead s at next
-head-ahead s at head-line.Malformed = Unit {0}
+abbrev pub head-ahead : List ℕ → ℕ → HeadForm → Type 0
+head-ahead s at (head-form.Is h next) = ahead s at next
+head-ahead s at head-form.Malformed = Unit {0}
 
-abbrev pub gate-ahead : List ℕ → ℕ → GateLine → Type 0
-gate-ahead s at (gate-line.Is g next) = ahead s at next
-gate-ahead s at gate-line.Malformed = Unit {0}
+abbrev pub gate-ahead : List ℕ → ℕ → GateForm → Type 0
+gate-ahead s at (gate-form.Is g next) = ahead s at next
+gate-ahead s at gate-form.Malformed = Unit {0}
 
-abbrev pub mct-ahead : List ℕ → ℕ → MctEnd → Type 0
-mct-ahead s at (mct-end.Target t next) = ahead s at next
-mct-ahead s at mct-end.Malformed = Unit {0}
+abbrev pub mct-ahead : List ℕ → ℕ → TargetForm → Type 0
+mct-ahead s at (target-form.Is t next) = ahead s at next
+mct-ahead s at target-form.Malformed = Unit {0}

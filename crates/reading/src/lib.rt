@@ -1,4 +1,4 @@
-// The reader of lines: a place in the text that only moves forward.
+// The cursor: a line is read at a place of the text, and the place after it is given.
 ghost use mathlib.Core.Path.{_≡_};
 ghost use Prim.Native.Nat.{_+_, _≤_, _<_, _^_};
 ghost use lib.ListN.{length, drop};
@@ -51,24 +51,24 @@ pub struct Bracketed {
 }
 
 // A line of a circuit and the place after it.
-pub enum GateLine {
+pub enum GateForm {
     Is(Gate, usize),
     Malformed,
 }
 
 // A line of a cascade: its target and the place after it, beside what is kept of its controls.
-pub enum MctEnd {
-    Target(u8, usize),
+pub enum TargetForm {
+    Is(u8, usize),
     Malformed,
 }
 
-pub struct MctLine {
-    pub end: MctEnd,
+pub struct MctForm {
+    pub target: TargetForm,
     pub controls: Controls,
 }
 
 // Line 1 of a text and the place after it.
-pub enum HeadLine {
+pub enum HeadForm {
     Is(text::Head, usize),
     Malformed,
 }
@@ -109,11 +109,11 @@ fn word(s: &[u8], at: usize, w: &[u8]) -> Found
     requires { ⌜ at ≤ length (now s) ⌝ }
     ensures { λ r. ⌜ found-tells (now (s .entry)) at (strip (now (w .entry)) (drop at (now (s .entry)))) tt r ⌝ }
 {
+    if s.len() - at < w.len() {
+        return Found::Missing;
+    }
     let mut k = 0;
     while k < w.len() {
-        if s.len() - at <= k {
-            return Found::Missing;
-        }
         if s[at + k] != w[k] {
             return Found::Missing;
         }
@@ -259,56 +259,56 @@ fn listed(s: &[u8], at: usize) -> Bracketed
 }
 
 // The line found before, else the gate of a power after its word `w`.
-fn powered_line(s: &[u8], at: usize, w: &[u8], power: u8, before: GateLine) -> GateLine
+fn powered_line(s: &[u8], at: usize, w: &[u8], power: u8, before: GateForm) -> GateForm
     requires { ⌜ at ≤ length (now s) ⌝ }
     requires { ⌜ gate-ahead (now s) at before ⌝ }
     ensures { λ r. ⌜ seen-gate (now (s .entry)) r ≡ or-powered (seen-gate (now (s .entry)) before) (now (w .entry)) power (drop at (now (s .entry))) ⌝ }
     ensures { λ r. ⌜ gate-ahead (now (s .entry)) at r ⌝ }
 {
-    let GateLine::Malformed = before else {
+    let GateForm::Malformed = before else {
         return before;
     };
     let Pair::Are(c, t, e) = two_numbers(s, at, w) else {
-        return GateLine::Malformed;
+        return GateForm::Malformed;
     };
-    GateLine::Is(Gate::Powered(power, c, t), e)
+    GateForm::Is(Gate::Powered(power, c, t), e)
 }
 
 // Line 1 of a text.
-pub fn read_head(s: &[u8], at: usize) -> HeadLine
+pub fn read_head(s: &[u8], at: usize) -> HeadForm
     requires { ⌜ at ≤ length (now s) ⌝ }
     ensures { λ r. ⌜ seen-head (now (s .entry)) r ≡ only-head (parse (drop at (now (s .entry)))) ⌝ }
     ensures { λ r. ⌜ head-ahead (now (s .entry)) at r ⌝ }
 {
     let Number::Is(n, e) = delimited_number(s, at, &text::LINES, b")\n") else {
-        return HeadLine::Malformed;
+        return HeadForm::Malformed;
     };
-    HeadLine::Is(text::Head { lines: n }, e)
+    HeadForm::Is(text::Head { lines: n }, e)
 }
 
 // A line of a circuit: it begins with at most one of the four words.
-pub fn read_gate(s: &[u8], at: usize) -> GateLine
+pub fn read_gate(s: &[u8], at: usize) -> GateForm
     requires { ⌜ at ≤ length (now s) ⌝ }
     ensures { λ r. ⌜ seen-gate (now (s .entry)) r ≡ only-gate (parse (drop at (now (s .entry)))) ⌝ }
     ensures { λ r. ⌜ gate-ahead (now (s .entry)) at r ⌝ }
 {
     if let Number::Is(t, e) = delimited_number(s, at, &text::NOT, b")\n") {
-        return GateLine::Is(Gate::Not(t), e);
+        return GateForm::Is(Gate::Not(t), e);
     }
-    let cn = powered_line(s, at, &text::CN, 2, GateLine::Malformed);
+    let cn = powered_line(s, at, &text::CN, 2, GateForm::Malformed);
     let v = powered_line(s, at, &text::V, 1, cn);
     powered_line(s, at, &text::VP, 3, v)
 }
 
 // A line of a cascade.
-pub fn read_mct(s: &[u8], at: usize) -> MctLine
+pub fn read_mct(s: &[u8], at: usize) -> MctForm
     requires { ⌜ at ≤ length (now s) ⌝ }
     ensures { λ r. ⌜ seen-mct (now (s .entry)) r ≡ with-gathered (only-mct (parse (drop at (now (s .entry))))) ⌝ }
-    ensures { λ r. ⌜ mct-ahead (now (s .entry)) at (r .end) ⌝ }
+    ensures { λ r. ⌜ mct-ahead (now (s .entry)) at (r .target) ⌝ }
 {
     let Found::At(p) = word(s, at, &text::MCT) else {
-        return MctLine {
-            end: MctEnd::Malformed,
+        return MctForm {
+            target: TargetForm::Malformed,
             controls: no_controls(),
         };
     };
@@ -316,19 +316,19 @@ pub fn read_mct(s: &[u8], at: usize) -> MctLine
     let controls = g.controls;
     let bracket = g.end;
     let Found::At(q) = bracket else {
-        return MctLine {
-            end: MctEnd::Malformed,
+        return MctForm {
+            target: TargetForm::Malformed,
             controls,
         };
     };
     let Number::Is(t, e) = delimited_number(s, q, b" ", b")\n") else {
-        return MctLine {
-            end: MctEnd::Malformed,
+        return MctForm {
+            target: TargetForm::Malformed,
             controls,
         };
     };
-    MctLine {
-        end: MctEnd::Target(t, e),
+    MctForm {
+        target: TargetForm::Is(t, e),
         controls,
     }
 }

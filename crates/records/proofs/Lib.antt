@@ -5,8 +5,8 @@ pub mod Local
 pub mod Calls
 pub mod Names
 pub mod Jobs
-pub mod Shape_tla
-pub mod Shape_tl
+pub mod Walk_text_list_area
+pub mod Walk_text_list
 pub mod Own
-pub mod Own_tla
-pub mod Own_tl
+pub mod Walk_text_own_list_area
+pub mod Walk_text_own_list

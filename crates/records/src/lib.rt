@@ -1,4 +1,5 @@
-// The gate records that a job is lent: what a job's covered part hands over, and the two thin functions that write it into them.
+// The gate records that a job is lent: what a job's covered part hands over, and how it is written into them. `store` alone
+// writes into them; it and `finish` are proved by hand.
 ghost use mathlib.Core.Path.{_≡_};
 ghost use lib.ListN.{length};
 ghost use Rattle.records.specs.Records.{record-at, written, finished, Coded, Writable, Fits};
@@ -10,10 +11,10 @@ pub struct Outcome {
     pub count: usize,
 }
 
-// What the covered part of a job hands over: the slice with the codes of the gates for the front of the list (4,096 places for codes, and 66 for
-// the bounds that the reduction keeps behind them), how many codes these are, how many records are written, and the outcome.
+// What the covered part of a job hands over: the codes of the gates for the front of the list, how many codes these are, how many records are
+// written, and the outcome.
 pub struct Done {
-    pub codes: [u16; 4162],
+    pub codes: [u16; 4096],
     pub gates: usize,
     pub limit: usize,
     pub outcome: Outcome,

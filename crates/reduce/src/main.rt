@@ -1,4 +1,4 @@
-// Reduces the circuit text on standard input.
+// Reduces a circuit text, of the file named or else on standard input.
 use console::Job;
 
 fn main() {

@@ -1,99 +1,102 @@
 -- The bounds of a list, where a gate enters it, leaves it or merges. Assumes nothing.
-use mathlib.Core.Path.{_≡_, refl, sym, ap, _∙_}
-use mathlib.Core.List.{List, _∷_}
-use Prim.Native.Nat.{ℕ, suc, _+_, _-_, _/_, _%_, _≤_, _<_}
+use mathlib.Core.Path.{_≡_, sym, ap, _∙_}
+use mathlib.Core.List.{List, _∷_, map}
+use Prim.Native.Nat.{ℕ, suc, _+_, _-_, _/_, _%_, _≤_, _<_, max}
 use native.Mathlib.Omega.{arith}
 use native.Mathlib.Decide.{ℕ-discrete, decLt}
-use lib.ListN.{length, take, drop, getD, set, replicate, length-drop, length-set, getD-replicate, List·getD-eq-default}
-use lib.Seq.{paste, length-paste, length-take-le, getD-take, getD-drop, getD-set-same, getD-set-other, take-set-lt, ext-getD}
-use Rattle.reduction.specs.Bounds.{Bounds, Bounded, Moved, Each, Raised, Noted}
+use borrow.Author.Tests.{lt-ltb, le-ltb, le-leb, lt-leb}
+use lib.ListN.{length, take, drop, getD, set, length-drop, length-set, length-map, List·getD-map}
+use lib.Seq.{paste, length-paste, length-take-le, getD-take, getD-drop, getD-set-same, getD-set-other, take-set-lt}
+use Rattle.reduction.specs.Bounds.{Bounds, moved-bound, raised, noted}
 use Rattle.reduction.proofs.Shift.{read-before, read-in}
-use Rattle.reduction.proofs.Places.{bounds-size}
 
--- no gates have any bounds
-pub bounded-none : (l : List ℕ) → 4162 ≤ length l → Bounded l 0
-bounded-none l h = record { size = bounds-size l h; target = λ j k. absurd (omega arith); control = λ j k. absurd (omega arith) }
+-- whatever the numbers are, they are bounds of no gates
+pub bounds-none : (L last : List ℕ) → length last ≡ 66 → Bounds (take 0 L) last
+bounds-none L last s = record { size = s; target = λ j k. absurd (omega arith); control = λ j k. absurd (omega arith) }
 
--- ---- the bounds changed, one a turn
+-- ---- a bound moved
 
--- those before k are changed as R says, the others are as they were
-pub record Changing (R : ℕ → ℕ → Type 0) (k : ℕ) (entry l : List ℕ) : Type 0 where
-  pub size : length l ≡ length entry
-  pub below : (j : ℕ) → j < k → R (getD entry j 0) (getD l j 0)
-  pub above : (j : ℕ) → k ≤ j → getD l j 0 ≡ getD entry j 0
+module _ (i n up down x : ℕ) where
+  pub moved-in : i < x → x ≤ n → moved-bound i n up down x ≡ x + up - down
+  unfolding moved-bound
+  moved-in h k = simp (lt-ltb i x h, le-leb x n k)
 
-module _ (R : ℕ → ℕ → Type 0) (L : List ℕ) where
-  pub changing-start : Changing R 0 L L
-  changing-start = record { size = refl; below = λ j h. absurd (omega arith); above = λ j h. refl }
+  pub moved-not : (i < x → x ≤ n → ⊥) → moved-bound i n up down x ≡ x
+  unfolding moved-bound
+  moved-not d = go (decLt i x)
+    where
+      go : Dec (i < x) → moved-bound i n up down x ≡ x
+      go (yes h) = let e = d h in simp (lt-ltb i x h, lt-leb x n (omega arith))
+      go (no h) = simp (le-ltb i x (omega arith))
 
-  module _ (k : ℕ) (l : List ℕ) (w : Changing R k L l) where
-    pub changing-more : (y : ℕ) → k < length L → R (getD l k 0) y → Changing R (k + 1) L (set l k y)
-    changing-more y h r = record {
-      size = length-set l k y ∙ w .size;
-      below = λ j b. go j b (ℕ-discrete j k);
-      above = λ j b. getD-set-other l k j y 0 (λ e. omega arith) ∙ w .above j (omega arith);
-    }
-      where
-        go : (j : ℕ) → j < k + 1 → Dec (j ≡ k) → R (getD L j 0) (getD (set l k y) j 0)
-        go j b (yes e) = rw (e, getD-set-same l k y 0 (omega (arith, w .size)), ← w .above k (omega arith)) r
-        go j b (no e) = rw (getD-set-other l k j y 0 e) (w .below j (let d = e in omega arith))
+  moved-cases : (P : ℕ → Type 0) → (i < x → x ≤ n → P (x + up - down)) → ((i < x → x ≤ n → ⊥) → P x) → P (moved-bound i n up down x)
+  moved-cases P a b = go (decLt i x) (decLt n x)
+    where
+      go : Dec (i < x) → Dec (n < x) → P (moved-bound i n up down x)
+      go (yes h) (no k) = rw (moved-in h (omega arith)) (a h (omega arith))
+      go (yes h) (yes k) = let d : i < x → x ≤ n → ⊥ = λ p q. omega arith in rw (moved-not d) (b d)
+      go (no h) k = let d : i < x → x ≤ n → ⊥ = λ p q. omega arith in rw (moved-not d) (b d)
 
-    pub changing-end : length L ≤ k → R 0 0 → Each R L l
-    changing-end h z = record { size = w .size; each = λ j. go j (decLt j k) }
-      where
-        go : (j : ℕ) → Dec (j < k) → R (getD L j 0) (getD l j 0)
-        go j (yes b) = w .below j b
-        go j (no b) = let e = List·getD-eq-default L 0 {n = j} (omega arith) in rw (w .above j (omega arith), e) z
+-- moved up a place, a bound is not less, and more if the places just below it moved
+pub record Raised (i n x y : ℕ) : Type 0 where
+  pub kept : x ≤ y
+  pub moved : i < x → x ≤ n → x < y
 
--- all of them set to 0
-pub cleared-all : (L l : List ℕ) (k : ℕ) → length L ≡ 66 → 66 ≤ k → Changing (λ x y. y ≡ 0) k L l → l ≡ replicate 66 0
-cleared-all L l k s h w =
-    let e : length l ≡ 66 = w .size ∙ s in
-    ext-getD 0 l (replicate 66 0) e (λ j b. w .below j (omega arith) ∙ sym (getD-replicate 66 j 0 0 (omega arith)))
+-- moved down a place, it is less by one at most, and not if it was not past place i
+pub record Lowered (i x y : ℕ) : Type 0 where
+  pub kept : x ≤ y + 1
+  pub below : x ≤ i → x ≤ y
 
--- none is moved where there is none
-pub moved-none : (i n up down : ℕ) → Moved i n up down 0 0
-moved-none i n up down = record { within = λ h. absurd (omega arith); below = λ h. omega arith; above = λ h. omega arith }
+moved-up : (i n x : ℕ) → Raised i n x (moved-bound i n 1 0 x)
+moved-up i n x = moved-cases i n 1 0 x (Raised i n x) (λ h k. record { kept = omega arith; moved = λ p q. omega arith }) (λ d. record { kept = omega arith; moved = λ p q. absurd (d p q) })
 
--- bounds moved up are raised, and a bound moved down is less by one at most
-moved-up : (i n x y : ℕ) → Moved i n 1 0 x y → Raised i n x y
-moved-up i n x y m = record { kept = go (decLt i x) (decLt n x); moved = λ h k. omega (arith, m .within h k) }
+moved-down : (i n x : ℕ) → Lowered i x (moved-bound i n 0 1 x)
+moved-down i n x = moved-cases i n 0 1 x (Lowered i x) (λ h k. record { kept = omega arith; below = λ p. omega arith }) (λ d. record { kept = omega arith; below = λ p. omega arith })
+
+-- ---- all of them
+
+-- each bound becomes one to which R relates it
+pub record Each (R : ℕ → ℕ → Type 0) (entry exit : List ℕ) : Type 0 where
+  pub size : length exit ≡ length entry
+  pub each : (k : ℕ) → R (getD entry k 0) (getD exit k 0)
+
+each-moved : (R : ℕ → ℕ → Type 0) (i n up down : ℕ) → ((x : ℕ) → R x (moved-bound i n up down x)) → (last : List ℕ) → Each R last (map (moved-bound i n up down) last)
+each-moved R i n up down r last =
+    let f : ℕ → ℕ = moved-bound i n up down in
+    let z : f 0 ≡ 0 = moved-not i n up down 0 (λ h k. omega arith) in
+    record { size = length-map last f; each = λ k. rw (ap (λ (d : ℕ). getD (map f last) k d) (sym z) ∙ List·getD-map f last k 0) (r (getD last k 0)) }
+
+pub all-lowered : (i n : ℕ) (last : List ℕ) → Each (Lowered i) last (map (moved-bound i n 0 1) last)
+all-lowered i n = each-moved (Lowered i) i n 0 1 (moved-down i n)
+
+raised-further : (i n : ℕ) (L l : List ℕ) (k y : ℕ) → Each (Raised i n) L l → k < length l → Each (Raised i n) L (raised l k y)
+unfolding raised
+raised-further i n L l k y w h = record { size = length-set l k _ ∙ w .size; each = λ j. go j (ℕ-discrete j k) }
   where
-    go : Dec (i < x) → Dec (n < x) → x ≤ y
-    go (no h) k = m .below (omega arith)
-    go (yes h) (yes k) = m .above k
-    go (yes h) (no k) = omega (arith, m .within h (omega arith))
+    go : (j : ℕ) → Dec (j ≡ k) → Raised i n (getD L j 0) (getD (set l k (max (getD l k 0) y)) j 0)
+    go j (yes e) = let r = w .each k in rw (e, getD-set-same l k (max (getD l k 0) y) 0 h) (record { kept = omega (arith, r .kept); moved = λ p q. omega (arith, r .moved p q) })
+    go j (no e) = rw (getD-set-other l k j (max (getD l k 0) y) 0 e) (w .each j)
 
-moved-down : (i n x y : ℕ) → Moved i n 0 1 x y → x ≤ y + 1
-moved-down i n x y m = go (decLt i x) (decLt n x)
-  where
-    go : Dec (i < x) → Dec (n < x) → x ≤ y + 1
-    go (no h) k = omega (arith, m .below (omega arith))
-    go (yes h) (yes k) = omega (arith, m .above k)
-    go (yes h) (no k) = omega (arith, m .within h (omega arith))
+-- g has entered at place i of the first n: each bound is raised, and those of g's target and control are past g
+pub record Noted (last : List ℕ) (i n g : ℕ) (exit : List ℕ) : Type 0 where
+  pub each : Each (Raised i n) last exit
+  pub target : i < getD exit (g / 132 + 1) 0
+  pub control : i < getD exit (33 + g / 4 % 33) 0
 
-pub all-raised : (i n : ℕ) (L l : List ℕ) → Each (Moved i n 1 0) L l → Each (Raised i n) L l
-all-raised i n L l w = record { size = w .size; each = λ k. moved-up i n (getD L k 0) (getD l k 0) (w .each k) }
-
--- a bound raised further
-raised-further : (i n : ℕ) (L l : List ℕ) (k y : ℕ) → Each (Raised i n) L l → k < length l → getD l k 0 ≤ y → Each (Raised i n) L (set l k y)
-raised-further i n L l k y w h b = record { size = length-set l k y ∙ w .size; each = λ j. go j (ℕ-discrete j k) }
-  where
-    go : (j : ℕ) → Dec (j ≡ k) → Raised i n (getD L j 0) (getD (set l k y) j 0)
-    go j (yes e) = let r = w .each k in rw (e, getD-set-same l k y 0 h) (record { kept = omega (arith, r .kept); moved = λ p q. omega (arith, r .moved p q) })
-    go j (no e) = rw (getD-set-other l k j y 0 e) (w .each j)
-
-pub noted : (i n g : ℕ) (L l : List ℕ) (x y : ℕ) → length L ≡ 66 → g / 132 + 1 < 33 → Each (Raised i n) L l → getD l (g / 132 + 1) 0 ≤ x → i < x → getD (set l (g / 132 + 1) x) (33 + g / 4 % 33) 0 ≤ y → i < y
-    → Noted L i n g (set (set l (g / 132 + 1) x) (33 + g / 4 % 33) y)
-noted i n g L l x y s u w a b c d =
+pub noted-all : (last : List ℕ) (i n g : ℕ) → length last ≡ 66 → g / 132 < 32 → Noted last i n g (noted last i n g)
+unfolding noted raised
+noted-all last i n g s u =
+    let f : ℕ → ℕ = moved-bound i n 1 0 in
     let t : ℕ = g / 132 + 1 in
     let k : ℕ = 33 + g / 4 % 33 in
-    let m : List ℕ = set l t x in
-    let z : length m ≡ 66 = length-set l t x ∙ w .size ∙ s in
+    let l : List ℕ = map f last in
+    let m : List ℕ = raised l t (i + 1) in
+    let a : Each (Raised i n) last l = each-moved (Raised i n) i n 1 0 (moved-up i n) last in
+    let b : Each (Raised i n) last m = raised-further i n last l t (i + 1) a (omega (arith, a .size)) in
     record {
-      raised = raised-further i n L m k y (raised-further i n L l t x w (omega (arith, w .size)) a) (omega arith) c;
-      target = rw (getD-set-other m k t y 0 (λ e. omega arith), getD-set-same l t x 0 (omega (arith, w .size))) b;
-      control = rw (getD-set-same m k y 0 (omega arith)) d;
+      each = raised-further i n last m k (i + 1) b (omega (arith, b .size));
+      target = rw (getD-set-other m k t (max (getD m k 0) (i + 1)) 0 (λ e. omega arith), getD-set-same l t (max (getD l t 0) (i + 1)) 0 (omega (arith, a .size))) (omega arith);
+      control = rw (getD-set-same m k (max (getD m k 0) (i + 1)) 0 (omega (arith, b .size))) (omega arith);
     }
 
 -- ---- a gate enters
@@ -142,9 +145,9 @@ module _ (L : List ℕ) (n g i : ℕ) (h : n < length L) (b : i ≤ n) (M : List
 
   pub bounds-entered : (last last′ : List ℕ) → Bounds (take n L) last → Noted last i n g last′ → Bounds (take (n + 1) M) last′
   bounds-entered last last′ w t = record {
-    size = t .raised .size ∙ w .size;
-    target = entered-bound last last′ (t .raised) (λ x. x / 132 + 1) (t .target) (w .target);
-    control = entered-bound last last′ (t .raised) (λ x. 33 + x / 4 % 33) (t .control) (w .control);
+    size = t .each .size ∙ w .size;
+    target = entered-bound last last′ (t .each) (λ x. x / 132 + 1) (t .target) (w .target);
+    control = entered-bound last last′ (t .each) (λ x. 33 + x / 4 % 33) (t .control) (w .control);
   }
 
 -- ---- a gate leaves, or merges
@@ -164,15 +167,15 @@ module _ (L : List ℕ) (n i : ℕ) (h : n ≤ length L) (b : i < n) (M : List �
       ∙ getD-drop (i + 1) L (j - i) 0
       ∙ ap (λ (x : ℕ). getD L x 0) p
 
-  module _ (last last′ : List ℕ) (r : Each (Moved i n 0 1) last last′) (f : ℕ → ℕ) (old : (j : ℕ) → j < length (take n L) → j < getD last (f (getD (take n L) j 0)) 0) where
+  module _ (last last′ : List ℕ) (r : Each (Lowered i) last last′) (f : ℕ → ℕ) (old : (j : ℕ) → j < length (take n L) → j < getD last (f (getD (take n L) j 0)) 0) where
     stood : (j : ℕ) → j < n → j < getD last (f (getD L j 0)) 0
     stood j k = rw (getD-take n L j 0 k) at (old j (rw (length-take-le n L h) k))
 
     stays : (j : ℕ) → j < i → j < getD last′ (f (getD L j 0)) 0
     stays j k = go (stood j (omega arith)) (r .each (f (getD L j 0))) (decLt i (getD last (f (getD L j 0)) 0))
       where
-        go : {x y : ℕ} → j < x → Moved i n 0 1 x y → Dec (i < x) → j < y
-        go {x} {y} l t (yes d) = omega (arith, moved-down i n x y t)
+        go : {x y : ℕ} → j < x → Lowered i x y → Dec (i < x) → j < y
+        go l t (yes d) = omega (arith, t .kept)
         go l t (no d) = omega (arith, t .below (omega arith))
 
     gone-bound : (j : ℕ) → j < length (take (n - 1) M) → j < getD last′ (f (getD (take (n - 1) M) j 0)) 0
@@ -180,9 +183,9 @@ module _ (L : List ℕ) (n i : ℕ) (h : n ≤ length L) (b : i < n) (M : List �
       where
         go : j < n - 1 → Dec (j < i) → j < getD last′ (f (getD M j 0)) 0
         go k (yes d) = rw (gone-before j d) (stays j d)
-        go k (no d) = rw (gone-after j (omega arith) k) (omega (arith, stood (j + 1) (omega arith), moved-down i n _ _ (r .each (f (getD L (j + 1) 0)))))
+        go k (no d) = rw (gone-after j (omega arith) k) (omega (arith, stood (j + 1) (omega arith), r .each (f (getD L (j + 1) 0)) .kept))
 
-  pub bounds-gone : (last last′ : List ℕ) → Bounds (take n L) last → Each (Moved i n 0 1) last last′ → Bounds (take (n - 1) M) last′
+  pub bounds-gone : (last last′ : List ℕ) → Bounds (take n L) last → Each (Lowered i) last last′ → Bounds (take (n - 1) M) last′
   bounds-gone last last′ w t = record {
     size = t .size ∙ w .size;
     target = gone-bound last last′ t (λ x. x / 132 + 1) (w .target);

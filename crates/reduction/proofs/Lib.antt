@@ -5,5 +5,4 @@ pub mod Shift
 pub mod Places
 pub mod Bounding
 pub mod Outcome
-pub mod Pushing
 pub mod Turns

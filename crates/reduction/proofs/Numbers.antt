@@ -11,9 +11,9 @@ use borrow.Author.Tests.{eqb-true, eqb-false}
 use Rattle.gates.specs.declared.Gate.the-variants.{Not, Powered}
 use Rattle.gates.specs.Circuit.{powered, Passes}
 use Rattle.gates.specs.Code.{code, gate, Code}
+use Rattle.gates.specs.Push.{Same, Less, low, tie, merged}
 use Rattle.gates.proofs.Codes.{target-gate, slot-gate, gate-not, gate-powered, code-not, code-powered}
-use Rattle.gates.proofs.Sites.{Same, Less, low, tie}
-use Rattle.gates.proofs.Merge.{powered-one, merged, merged-powered, merged-not, all-valid-merged}
+use Rattle.gates.proofs.Merge.{powered-one, merged-powered, merged-not, all-valid-merged}
 use Rattle.reduction.specs.Partner.{passing}
 
 -- ---- passing

@@ -1,12 +1,10 @@
--- The parts of a slice: the places for gates, the bounds, and what comes after them. Assumes nothing.
-use mathlib.Core.Path.{_≡_, sym, ap, _∙_}
-use mathlib.Core.List.{List, _++_}
-use Prim.Native.Nat.{ℕ, _+_, _-_, _≤_}
+-- Parts of a list, and its places set one after another. Assumes nothing.
+use mathlib.Core.Path.{_≡_, refl, sym, ap, _∙_}
+use mathlib.Core.List.{List, [], _∷_, _++_, map, map-append, append-assoc, append-nil}
+use Prim.Native.Nat.{ℕ, zero, suc, _+_, _-_, _≤_, _<_}
 use native.Mathlib.Omega.{arith}
-use lib.ListN.{length, take, drop, length-drop}
-use lib.Seq.{take-take, take-add, take-at, take-append-le, drop-at, drop-drop, drop-append-le, length-take-le}
-use Rattle.reduction.specs.Bounds.{bounds-of}
-use Rattle.reduction.specs.Pushed.{Unchanged}
+use lib.ListN.{length, take, drop, getD, set, replicate, length-append, length-map, length-replicate, drop-of-length-le, take-append-drop}
+use lib.Seq.{take-add, take-suc, take-all, drop-at, drop-cons, drop-drop, append-snoc, set-at, getD-at, length-take-le}
 
 -- the elements from a on, of the first a + m
 pub drop-take : (L : List ℕ) (a m : ℕ) → a ≤ length L → drop a (take (a + m) L) ≡ take m (drop a L)
@@ -18,58 +16,72 @@ drop-later x y a b h e =
     let k : a + (b - a) ≡ b = omega arith in
     rw k at (sym (drop-drop (b - a) a x) ∙ ap (λ (z : List ℕ). drop (b - a) z) e ∙ drop-drop (b - a) a y)
 
--- ---- lists with the same rest
+-- ---- the places before k are set, and make the list p; the others are as they were
 
-module _ (L M : List ℕ) (k : ℕ) (few : k ≤ 4096) (room : 4162 ≤ length L) (same : length M ≡ length L) (e : drop k M ≡ drop k L) where
-  pub rest-unchanged : Unchanged k L M
-  rest-unchanged =
-      let z : k + (4096 - k) ≡ 4096 = omega arith in
-      record {
-        places = rw z at (drop-take M k (4096 - k) (omega arith) ∙ ap (λ (x : List ℕ). take (4096 - k) x) e ∙ sym (drop-take L k (4096 - k) (omega arith)));
-        after = drop-later M L k 4162 (omega arith) e;
-      }
+module _ (L p : List ℕ) (k : ℕ) (e : length p ≡ k) (h : k < length L) where
+  next-place : getD (p ++ drop k L) k 0 ≡ getD L k 0
+  next-place = ap (λ (x : List ℕ). getD (p ++ x) k 0) (drop-cons L k 0 h) ∙ getD-at p (getD L k 0) (drop (suc k) L) 0 k e
 
-  pub rest-bounds : bounds-of M ≡ bounds-of L
-  unfolding bounds-of
-  rest-bounds = ap (λ (x : List ℕ). take 66 x) (drop-later M L k 4096 few e)
+  set-place : (x : ℕ) → set (p ++ drop k L) k x ≡ (p ++ (x ∷ [])) ++ drop (k + 1) L
+  set-place x =
+      let s : suc k ≡ k + 1 = omega arith in
+      ap (λ (y : List ℕ). set (p ++ y) k x) (drop-cons L k 0 h)
+      ∙ set-at p (getD L k 0) (drop (suc k) L) x k e
+      ∙ sym (append-snoc p x (drop (suc k) L))
+      ∙ ap (λ (j : ℕ). (p ++ (x ∷ [])) ++ drop j L) s
 
--- ---- a slice whose bounds were lent and came back as b
+-- ---- each element mapped
 
-abbrev pub with-bounds : List ℕ → List ℕ → List ℕ
-with-bounds l b = take 4096 l ++ (b ++ drop 66 (drop 4096 l))
+module _ (f : ℕ → ℕ) (L : List ℕ) where
+  -- those before k are
+  abbrev pub Mapped : ℕ → List ℕ → Type 0
+  Mapped k l = l ≡ map f (take k L) ++ drop k L
 
-module _ (l : List ℕ) (room : 4162 ≤ length l) where
-  pub bounds-size : length (bounds-of l) ≡ 66
-  unfolding bounds-of
-  bounds-size = length-take-le 66 (drop 4096 l) (omega (arith, length-drop 4096 l))
+  module _ (k : ℕ) (l : List ℕ) (h : k < length L) (q : Mapped k l) where
+    front-length : length (map f (take k L)) ≡ k
+    front-length = length-map (take k L) f ∙ length-take-le k L (omega arith)
 
-  front-size : length (take 4096 l) ≡ 4096
-  front-size = length-take-le 4096 l (omega arith)
+    pub mapped-next : getD l k 0 ≡ getD L k 0
+    mapped-next = ap (λ (x : List ℕ). getD x k 0) q ∙ next-place L (map f (take k L)) k front-length h
 
-  module _ (b : List ℕ) where
-    pub lent-front : (r : ℕ) → r ≤ 4096 → take r (with-bounds l b) ≡ take r l
-    lent-front r h = take-append-le r (take 4096 l) (b ++ drop 66 (drop 4096 l)) (omega (arith, front-size)) ∙ take-take r 4096 l h
+    pub mapped-more : (y : ℕ) → y ≡ f (getD l k 0) → Mapped (k + 1) (set l k y)
+    mapped-more y e =
+        let s : k + 1 ≡ suc k = omega arith in
+        let t : map f (take k L) ++ (f (getD L k 0) ∷ []) ≡ map f (take (k + 1) L) =
+        sym (map-append f (take k L) (getD L k 0 ∷ [])) ∙ ap (λ (x : List ℕ). map f x) (sym (take-suc L k 0 h)) ∙ ap (λ (j : ℕ). map f (take j L)) (sym s) in
+        ap (λ (x : List ℕ). set x k y) q
+        ∙ ap (λ (x : ℕ). set (map f (take k L) ++ drop k L) k x) (e ∙ ap f mapped-next)
+        ∙ set-place L (map f (take k L)) k front-length h (f (getD L k 0))
+        ∙ ap (λ (x : List ℕ). x ++ drop (k + 1) L) t
 
-    pub lent-bounds : length b ≡ 66 → bounds-of (with-bounds l b) ≡ b
-    unfolding bounds-of
-    lent-bounds s = ap (λ (x : List ℕ). take 66 x) (drop-at (take 4096 l) (b ++ drop 66 (drop 4096 l)) 4096 front-size) ∙ take-at b (drop 66 (drop 4096 l)) 66 s
+  pub mapped-all : (k : ℕ) (l : List ℕ) → length L ≤ k → Mapped k l → l ≡ map f L
+  mapped-all k l h q =
+      q
+      ∙ ap (λ (x : List ℕ). map f x ++ drop k L) (take-all k L h)
+      ∙ ap (λ (x : List ℕ). map f L ++ x) (drop-of-length-le L h)
+      ∙ append-nil (map f L)
 
-    lent-after : length b ≡ 66 → drop 4162 (with-bounds l b) ≡ drop 4162 l
-    lent-after s =
-        sym (drop-drop 66 4096 (with-bounds l b))
-        ∙ ap (λ (x : List ℕ). drop 66 x) (drop-at (take 4096 l) (b ++ drop 66 (drop 4096 l)) 4096 front-size)
-        ∙ drop-at b (drop 66 (drop 4096 l)) 66 s
-        ∙ drop-drop 66 4096 l
+-- ---- the elements from r on set to 0
 
-    pub lent-unchanged : length b ≡ 66 → {k : ℕ} {L : List ℕ} → Unchanged k L l → Unchanged k L (with-bounds l b)
-    lent-unchanged s {k} a = record { places = ap (λ (x : List ℕ). drop k x) (lent-front 4096 (omega arith)) ∙ a .places; after = lent-after s ∙ a .after }
+one-more : (j : ℕ) → _≡_ {A = List ℕ} (replicate j 0 ++ (0 ∷ [])) (replicate (suc j) 0)
+one-more zero = refl
+one-more (suc j) = ap (λ (x : List ℕ). 0 ∷ x) (one-more j)
 
-    pub lent-rest : (k : ℕ) → k ≤ 4096 → drop k (with-bounds l b) ≡ drop k (take 4096 l) ++ (b ++ drop 4162 l)
-    lent-rest k h = drop-append-le k (take 4096 l) (b ++ drop 66 (drop 4096 l)) (omega (arith, front-size)) ∙ ap (λ (x : List ℕ). drop k (take 4096 l) ++ (b ++ x)) (drop-drop 66 4096 l)
+module _ (L : List ℕ) (r : ℕ) where
+  -- those before k are
+  abbrev pub Cleared : ℕ → List ℕ → Type 0
+  Cleared k l = l ≡ take r L ++ (replicate (k - r) 0 ++ drop k L)
 
--- what is unchanged twice is unchanged
-pub unchanged-later : {j k : ℕ} {L l M : List ℕ} → j ≤ k → Unchanged j l M → Unchanged k L l → Unchanged k L M
-unchanged-later {j} {k} {L} {l} {M} h a b = record { places = drop-later (take 4096 M) (take 4096 l) j k h (a .places) ∙ b .places; after = a .after ∙ b .after }
+  pub cleared-start : Cleared r L
+  cleared-start = let z : r - r ≡ 0 = omega arith in rw z (sym (take-append-drop r L))
 
-pub unchanged-more : {j k : ℕ} {L l : List ℕ} → j ≤ k → Unchanged j L l → Unchanged k L l
-unchanged-more {j} {k} {L} {l} h a = record { places = drop-later (take 4096 l) (take 4096 L) j k h (a .places); after = a .after }
+  pub cleared-more : (k : ℕ) (l : List ℕ) → r ≤ k → k < length L → Cleared k l → Cleared (k + 1) (set l k 0)
+  cleared-more k l b h q =
+      let e : length (take r L ++ replicate (k - r) 0) ≡ k =
+      length-append (take r L) (replicate (k - r) 0) ∙ omega (arith, length-take-le r L (omega arith), length-replicate {A = ℕ} (k - r) 0) in
+      let s : suc (k - r) ≡ k + 1 - r = omega arith in
+      let z : _≡_ {A = List ℕ} (replicate (k - r) 0 ++ (0 ∷ [])) (replicate (k + 1 - r) 0) = one-more (k - r) ∙ ap (λ (j : ℕ). replicate j 0) s in
+      ap (λ (x : List ℕ). set x k 0) (q ∙ sym (append-assoc (take r L) (replicate (k - r) 0) (drop k L)))
+      ∙ set-place L (take r L ++ replicate (k - r) 0) k e h 0
+      ∙ ap (λ (x : List ℕ). x ++ drop (k + 1) L) (append-assoc (take r L) (replicate (k - r) 0) (0 ∷ []) ∙ ap (λ (x : List ℕ). take r L ++ x) z)
+      ∙ append-assoc (take r L) (replicate (k + 1 - r) 0) (drop (k + 1) L)

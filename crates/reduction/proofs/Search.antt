@@ -2,7 +2,7 @@
 -- Assumes nothing.
 use mathlib.Core.Path.{_≡_, refl, sym, ap, _∙_}
 use mathlib.Core.List.{List, [], _∷_, _++_}
-use Prim.Native.Nat.{ℕ, zero, suc, _+_, _-_, _/_, _%_, _≤_, _<_}
+use Prim.Native.Nat.{ℕ, zero, suc, _+_, _-_, _/_, _%_, _≤_, _<_, min}
 use native.Mathlib.Numerals.{add-one}
 use native.Mathlib.Omega.{arith}
 use native.Mathlib.Decide.{decLt}
@@ -11,17 +11,16 @@ use lib.Seq.{drop-cons, drop-drop, take-suc, append-snoc, split-at, length-take-
 use Rattle.gates.specs.declared.Gate.{Gate}
 use Rattle.gates.specs.Circuit.{Passes}
 use Rattle.gates.specs.Code.{gate, gates, Code}
+use Rattle.gates.specs.Push.{Same, Less, merged, Free, free-nil, free-cons, free-head, free-tail, Turn, meets, enters, stays, turn, push, Front, here, there, Normal, normal-cons}
 use Rattle.gates.proofs.Codes.{target-gate, slot-gate}
 use Rattle.gates.proofs.CodeLists.{gates-append}
-use Rattle.gates.proofs.Sites.{Same, Less, same-sym, less-irrefl, less-asym, passes-sym, passes-same-right, passes-self}
-use Rattle.gates.proofs.Merge.{merged}
-use Rattle.gates.proofs.Push.{Free, free-nil, free-cons, free-head, free-tail, Turn, meets, enters, stays, turn, push, push-nil, push-meets, push-enters, push-stays}
-use Rattle.gates.proofs.Normal.{Front, here, there, Normal, normal-cons}
+use Rattle.gates.proofs.Sites.{same-sym, less-irrefl, less-asym, passes-sym, passes-same-right, passes-self}
+use Rattle.gates.proofs.Push.{push-nil, push-meets, push-enters, push-stays}
 use Rattle.gates.proofs.Scan.{push-blocked}
 use Rattle.reduction.specs.declared.Partner.{Partner}
 use Rattle.reduction.specs.declared.Partner.the-variants.{At, Nowhere}
-use Rattle.reduction.specs.Partner.{Meets, Lowest, Search, Enters}
-use Rattle.reduction.specs.Bounds.{Bounds, Start}
+use Rattle.reduction.specs.Partner.{Meets, Leftmost, Search, Enters}
+use Rattle.reduction.specs.Bounds.{Bounds, highest}
 use Rattle.reduction.proofs.Numbers.{one-site, site-less}
 
 -- ---- free over a part of a list
@@ -82,27 +81,29 @@ free-all : (g : Gate) (l : List ℕ) → ((j : ℕ) → j < length l → Passes 
 free-all g [] f = free-nil
 free-all g (a ∷ l) f = free-cons (f 0 (omega arith)) (free-all g l (λ j h. f (suc j) (omega arith)))
 
-module _ (l last : List ℕ) (g b : ℕ) (w : Bounds l last) (s : Start last (length l) g b) where
+module _ (l last : List ℕ) (g b : ℕ) (w : Bounds l last) (s : min (highest last g) (length l) ≤ b) (t : b ≤ length l) where
   module _ (j : ℕ) (h : b ≤ j) (k : j < length l) where
     past-site : getD l j 0 / 4 ≡ g / 4 → ⊥
+    unfolding highest
     past-site e =
         let t : getD l j 0 / 132 + 1 ≡ g / 132 + 1 = omega arith in
         let c : 33 + getD l j 0 / 4 % 33 ≡ 33 + g / 4 % 33 = ap (λ (q : ℕ). 33 + q % 33) e in
-        omega (arith, s .past .partner j (rw t at (w .target j k)) (rw c at (w .control j k)), s .beyond j h k)
+        omega (arith, rw t at (w .target j k), rw c at (w .control j k))
 
     past-passes : Passes (gate g) (gate (getD l j 0))
+    unfolding highest
     past-passes = record {
       there = λ e.
           let t : 33 + getD l j 0 / 4 % 33 ≡ 34 + g / 132 = omega (arith, target-gate g, slot-gate (getD l j 0)) in
-          omega (arith, rw t at (w .control j k), s .past .there, s .beyond j h k);
+          omega (arith, rw t at (w .control j k));
       back = λ e.
           let t : getD l j 0 / 132 + 1 ≡ g / 4 % 33 = omega (arith, target-gate (getD l j 0), slot-gate g) in
-          omega (arith, rw t at (w .target j k), s .past .back, s .beyond j h k);
+          omega (arith, rw t at (w .target j k));
     }
 
   bounds-tried : Tried l g b
   bounds-tried = record {
-    within = s .inside;
+    within = t;
     free = free-all (gate g) (drop b l) (λ j h. let k : b + j < length l = omega (arith, length-drop b l) in rw (getD-drop b l j 0) (past-passes (b + j) (omega arith) k));
     none = past-site;
   }
@@ -124,7 +125,7 @@ gates-snoc l i h v =
     ∙ ap (λ (x : List Gate). x ++ v) (sym (gates-append (take i l) (getD l i 0 ∷ [])) ∙ sym (ap (λ (x : List ℕ). gates x) (take-suc l i 0 h)))
 
 module _ (l : List ℕ) (g : ℕ) where
-  entry-start : (b : ℕ) → Passes (gate g) (gate g) → Lowest l g b → Behind l g b
+  entry-start : (b : ℕ) → Passes (gate g) (gate g) → Leftmost l g b → Behind l g b
   entry-start zero s c = record { within = c .inside; free = c .free; kept = refl }
   entry-start (suc p) s c =
       record {
@@ -180,8 +181,8 @@ pub front-at : (L : List ℕ) (n i : ℕ) → n ≤ length L → i < n → (i < 
 front-at L n i h k = (rw (length-take-le n L h) k, getD-take n L i 0 k)
 
 module _ (L : List ℕ) (n g : ℕ) (h : n ≤ length L) where
-  pub search-start : (last : List ℕ) (b : ℕ) → Bounds (take n L) last → Start last n g b → Tried (take n L) g b
-  search-start last b w s = let e = length-take-le n L h in bounds-tried (take n L) last g b w (rw e s)
+  pub search-start : (last : List ℕ) (b : ℕ) → Bounds (take n L) last → min (highest last g) n ≤ b → b ≤ n → Tried (take n L) g b
+  search-start last b w s t = let e = length-take-le n L h in bounds-tried (take n L) last g b w (rw e s) (rw e t)
 
   module _ (b p : ℕ) (e : b ≡ suc p) (k : b ≤ n) (t : Tried (take n L) g b) where
     pub search-found : getD L p 0 / 4 ≡ g / 4 → Search (take n L) g (At p)

@@ -3,102 +3,84 @@ use mathlib.Core.Path.{_≡_, refl, sym, ap, _∙_}
 use mathlib.Core.List.{List, [], _∷_, _++_}
 use Prim.Native.Nat.{ℕ, suc, _+_, _-_, _≤_, _<_}
 use native.Mathlib.Omega.{arith}
-use lib.ListN.{length, take, drop, getD, replicate, length-drop}
-use lib.Seq.{take-suc, take-take, getD-take, getD-drop}
+use lib.ListN.{length, take, drop, getD, replicate}
+use lib.Seq.{take-suc, take-at, drop-at, getD-drop, length-take-le}
 use Rattle.gates.specs.declared.Gate.{Gate}
 use Rattle.gates.specs.Code.{gate, gates, AllCodes}
-use Rattle.gates.proofs.CodeLists.{gates-append, all-codes-take, code-in-front}
-use Rattle.gates.proofs.Push.{push}
-use Rattle.gates.proofs.Normal.{Normal}
-use Rattle.gates.proofs.Same.{pushes}
-use Rattle.gates.proofs.Theorem.{nf, pushes-append, nf-reduced}
-use Rattle.reduction.specs.Bounds.{Bounded}
-use Rattle.reduction.specs.Pushed.{Unchanged, Pushable, Pushed, PushedAll, ReducedTo}
-use Rattle.reduction.proofs.Places.{with-bounds, lent-front, lent-unchanged, lent-rest, unchanged-later, unchanged-more}
+use Rattle.gates.specs.Push.{push, Normal, normal-nil}
+use Rattle.gates.proofs.CodeLists.{gates-append, code-in-front}
+use Rattle.gates.proofs.Theorem.{nf, normal-pushes, nf-reduced}
+use Rattle.gates.proofs.Joins.{nf-nil, nf-snoc}
+use Rattle.reduction.specs.Bounds.{Bounds}
+use Rattle.reduction.specs.Pushed.{Pushable, Pushed}
+use Rattle.reduction.specs.Reducing.{ReducedTo}
+use Rattle.reduction.proofs.Places.{drop-later, Cleared}
+use Rattle.reduction.proofs.Bounding.{bounds-none}
 
-module _ (L : List ℕ) (n m : ℕ) (h : n ≤ m) (top : m ≤ 4096) (k : 4162 ≤ length L) (cs : AllCodes 32 (take m L)) where
-  pub turns-start : Normal (gates (take n L)) → Bounded L n → PushedAll L n n n L
-  turns-start w b =
-      let z : n - n ≡ 0 = omega arith in
-      record {
-        pushed = ap (λ (j : ℕ). pushes (gates (take n L)) (gates (take j (drop n L)))) (sym z);
-        within = omega arith;
-        codes = rw (take-take n m L h) at (all-codes-take 32 n (take m L) cs);
-        normal = w;
-        bounded = b;
-        rest = record { places = refl; after = refl };
-      }
+-- the first i gates of L are pushed: the first r elements of l are their reduced list, with bounds, and the places from i on are as they were
+pub record Turned (L : List ℕ) (i r : ℕ) (l last : List ℕ) : Type 0 where
+  pub size : length l ≡ length L
+  pub pushed : gates (take r l) ≡ nf (gates (take i L))
+  pub within : r ≤ i
+  pub codes : AllCodes 32 (take r l)
+  pub bounds : Bounds (take r l) last
+  pub rest : drop i l ≡ drop i L
 
-  module _ (l : List ℕ) (i r : ℕ) (e : n ≤ i) (j : i < m) (s : length l ≡ length L) (p : PushedAll L n i r l) where
+pub turned-start : (L last : List ℕ) → length last ≡ 66 → Turned L 0 0 L last
+turned-start L last s = record { size = refl; pushed = sym nf-nil; within = omega arith; codes = tt; bounds = bounds-none L last s; rest = refl }
+
+module _ (L : List ℕ) (m : ℕ) (few : m ≤ 4096) (h : m ≤ length L) (cs : AllCodes 32 (take m L)) where
+  module _ (l last : List ℕ) (i r : ℕ) (j : i < m) (p : Turned L i r l last) where
     next : getD l i 0 ≡ getD L i 0
     next =
         let z : i + 0 ≡ i = omega arith in
-        sym (getD-take 4096 l i 0 (omega arith))
-        ∙ rw z at (sym (getD-drop i (take 4096 l) 0 0) ∙ ap (λ (x : List ℕ). getD x 0 0) (p .rest .places) ∙ getD-drop i (take 4096 L) 0 0)
-        ∙ getD-take 4096 L i 0 (omega arith)
+        rw z at (sym (getD-drop i l 0 0) ∙ ap (λ (x : List ℕ). getD x 0 0) (p .rest) ∙ getD-drop i L 0 0)
 
-    pub turns-pushable : Pushable l r (getD l i 0)
-    turns-pushable =
-        let b = p .within in
-        record {
-          room = omega arith;
-          few = omega arith;
-          codes = p .codes;
-          normal = p .normal;
-          bounded = p .bounded;
-          code = rw next (code-in-front 32 L m i 0 j (omega arith) cs);
-        }
+    normal : Normal (gates (take r l))
+    unfolding nf
+    normal = rw (p .pushed) (normal-pushes (gates (take i L)) normal-nil)
 
-    more : gates (take (i + 1 - n) (drop n L)) ≡ gates (take (i - n) (drop n L)) ++ (gate (getD L i 0) ∷ [])
+    pub turned-pushable : Pushable l last r (getD l i 0)
+    turned-pushable = record {
+      room = omega (arith, p .size, p .within);
+      few = omega (arith, p .within);
+      codes = p .codes;
+      normal = normal;
+      bounds = p .bounds;
+      code = rw next (code-in-front 32 L m i 0 j (omega arith) cs);
+    }
+
+    more : gates (take (i + 1) L) ≡ gates (take i L) ++ (gate (getD L i 0) ∷ [])
     more =
-        let z : i + 1 - n ≡ suc (i - n) = omega arith in
-        let y : n + (i - n) ≡ i = omega arith in
-        let q : getD (drop n L) (i - n) 0 ≡ getD L i 0 = getD-drop n L (i - n) 0 ∙ ap (λ (t : ℕ). getD L t 0) y in
-        ap (λ (t : ℕ). gates (take t (drop n L))) z
-        ∙ ap (λ (x : List ℕ). gates x) (take-suc (drop n L) (i - n) 0 (let d = length-drop n L in omega arith))
-        ∙ gates-append (take (i - n) (drop n L)) (getD (drop n L) (i - n) 0 ∷ [])
-        ∙ ap (λ (t : ℕ). gates (take (i - n) (drop n L)) ++ (gate t ∷ [])) q
+        let z : i + 1 ≡ suc i = omega arith in
+        ap (λ (t : ℕ). gates (take t L)) z ∙ ap (λ (x : List ℕ). gates x) (take-suc L i 0 (omega arith)) ∙ gates-append (take i L) (getD L i 0 ∷ [])
 
-    pub turns-more : (l′ : List ℕ) (r′ : ℕ) → Pushed l r (getD l i 0) r′ l′ → PushedAll L n (i + 1) r′ l′
-    turns-more l′ r′ w =
-        let v : List Gate = gates (take n L) in
-        let b = p .within in
-        record {
-          pushed =
-              w .pushed
-              ∙ ap (λ (x : List Gate). push x (gate (getD l i 0))) (p .pushed)
-              ∙ ap (λ (t : ℕ). push (pushes v (gates (take (i - n) (drop n L)))) (gate t)) next
-              ∙ sym (pushes-append v (gates (take (i - n) (drop n L))) (gate (getD L i 0) ∷ []))
-              ∙ ap (λ (x : List Gate). pushes v x) (sym more);
-          within = let c = w .within in omega arith;
-          codes = w .codes;
-          normal = w .normal;
-          bounded = w .bounded;
-          rest = unchanged-later (omega (arith, w .within)) (w .rest) (unchanged-more (omega arith) (p .rest));
-        }
+    pub turned-more : (l′ last′ : List ℕ) (r′ : ℕ) → length l′ ≡ length l → Pushed l r (getD l i 0) r′ l′ last′ → Turned L (i + 1) r′ l′ last′
+    turned-more l′ last′ r′ s w = record {
+      size = s ∙ p .size;
+      pushed =
+          w .pushed
+          ∙ ap (λ (x : List Gate). push x (gate (getD l i 0))) (p .pushed)
+          ∙ ap (λ (t : ℕ). push (nf (gates (take i L))) (gate t)) next
+          ∙ sym (nf-snoc (gates (take i L)) (gate (getD L i 0)))
+          ∙ ap nf (sym more);
+      within = omega (arith, w .within, p .within);
+      codes = w .codes;
+      bounds = w .bounds;
+      rest = drop-later l′ l r′ (i + 1) (omega (arith, w .within, p .within)) (w .rest) ∙ drop-later l L i (i + 1) (omega arith) (p .rest);
+    }
 
--- ---- the bounds set to 0, the gates pushed onto none, and the bounds set to 0 again
-
-module _ (L : List ℕ) (m : ℕ) (few : m ≤ 4096) (h : 4162 ≤ length L) (b : List ℕ) (e : b ≡ replicate 66 0) where
-  pub cleared-codes : AllCodes 32 (take m L) → AllCodes 32 (take m (with-bounds L b))
-  cleared-codes cs = rw (lent-front L h b m few) cs
-
-  pub turns-reduce : (r : ℕ) (M : List ℕ) → 4162 ≤ length M → (b′ : List ℕ) → b′ ≡ replicate 66 0 → PushedAll (with-bounds L b) 0 m r M → ReducedTo L m r (with-bounds M b′)
-  unfolding nf
-  turns-reduce r M k b′ e′ p =
-      let z : m - 0 ≡ m = omega arith in
-      let f : take r (with-bounds M b′) ≡ take r M = lent-front M k b′ r (omega (arith, p .within)) in
-      let q : gates (take r M) ≡ nf (gates (take m L)) =
-      p .pushed ∙ ap (λ (j : ℕ). pushes [] (gates (take j (with-bounds L b)))) z ∙ ap (λ (x : List ℕ). pushes [] (gates x)) (lent-front L h b m few) in
-      let a : Unchanged m L M = unchanged-later (omega arith) (p .rest) (lent-unchanged L h b (ap length e) (record { places = refl; after = refl })) in
+  -- all m gates pushed, and the places behind the list set to 0
+  pub turned-reduced : (r : ℕ) (l last exit : List ℕ) → Turned L m r l last → Cleared l r m exit → ReducedTo L m r exit
+  turned-reduced r l last exit p e =
+      let k : length (take r l) ≡ r = length-take-le r l (omega (arith, p .size, p .within)) in
+      let f : take r exit ≡ take r l = ap (λ (x : List ℕ). take r x) e ∙ take-at (take r l) (replicate (m - r) 0 ++ drop m l) r k in
       record {
-        reduced = λ n v. rw (f, q) (nf-reduced n (gates (take m L)) v);
+        reduced = λ n v. rw (f, p .pushed) (nf-reduced n (gates (take m L)) v);
         within = p .within;
         codes = rw f (p .codes);
-        normal = rw f (p .normal);
         rest =
-            lent-rest M k b′ m few
-            ∙ ap (λ (x : List ℕ). x ++ (b′ ++ drop 4162 M)) (a .places)
-            ∙ ap (λ (x : List ℕ). drop m (take 4096 L) ++ (x ++ drop 4162 M)) e′
-            ∙ ap (λ (x : List ℕ). drop m (take 4096 L) ++ (replicate 66 0 ++ x)) (a .after);
+            ap (λ (x : List ℕ). drop r x) e
+            ∙ drop-at (take r l) (replicate (m - r) 0 ++ drop m l) r k
+            ∙ ap (λ (x : List ℕ). replicate (m - r) 0 ++ x) (p .rest);
       }

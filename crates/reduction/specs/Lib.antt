@@ -2,3 +2,4 @@
 pub mod Partner
 pub mod Bounds
 pub mod Pushed
+pub mod Reducing

@@ -7,7 +7,7 @@ use lib.Dec.{eqb}
 use lib.ListN.{length, take, drop, getD}
 use Rattle.gates.specs.Circuit.{Passes}
 use Rattle.gates.specs.Code.{gate, gates}
-use Rattle.gates.proofs.Push.{Free, push}
+use Rattle.gates.specs.Push.{Free, push}
 use Rattle.reduction.specs.declared.Partner.{Partner}
 use Rattle.reduction.specs.declared.Partner.the-variants.{At, Nowhere}
 
@@ -23,7 +23,7 @@ pub record Meets (l : List ℕ) (g i : ℕ) : Type 0 where
   pub free : Free (gate g) (gates (drop (suc i) l))
 
 -- b is the lowest place to which passes alone bring g: it passes every gate from there on, and not the one before
-pub record Lowest (l : List ℕ) (g b : ℕ) : Type 0 where
+pub record Leftmost (l : List ℕ) (g b : ℕ) : Type 0 where
   pub inside : b ≤ length l
   pub free : Free (gate g) (gates (drop b l))
   pub blocked : (p : ℕ) → b ≡ suc p → Passes (gate g) (gate (getD l p 0)) → ⊥
@@ -31,7 +31,7 @@ pub record Lowest (l : List ℕ) (g b : ℕ) : Type 0 where
 -- what the search for g's partner in l answers
 unfoldable pub Search : List ℕ → ℕ → Partner → Type 0
 Search l g (At i) = Meets l g i
-Search l g (Nowhere b) = ((i : ℕ) → Meets l g i → ⊥) × Lowest l g b
+Search l g (Nowhere b) = ((i : ℕ) → Meets l g i → ⊥) × Leftmost l g b
 
 -- g enters at place i: pushed onto the gates of l, it stands there
 pub record Enters (l : List ℕ) (g i : ℕ) : Type 0 where

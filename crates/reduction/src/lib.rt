@@ -1,25 +1,24 @@
-// A reduced list of gates in the first part of a lent slice, a gate as its number, and one gate after another pushed onto it. The first 4,096
-// places of the slice are for gates, the next 66 for bounds, `last`: no gate from place last[t + 1] on has the target t, and none from place
-// last[33 + s] on the control of slot s.
+// A list of gates reduced in place, a gate as its number: one gate after another is pushed onto the reduced list of those before it. `last` holds
+// bounds of that list: no gate from place last[t + 1] on has the target t, and none from place last[33 + s] on the control of slot s.
 ghost use mathlib.Core.Path.{_≡_};
-ghost use mathlib.Core.List.{_∷_};
-ghost use Prim.Native.Nat.{_+_, _-_, _≤_, _<_};
+ghost use mathlib.Core.List.{_∷_, _++_, map};
+ghost use Prim.Native.Nat.{_+_, _-_, _≤_, _<_, min, max};
 ghost use lib.ListN.{length, take, drop, replicate};
 ghost use lib.Seq.{paste};
-ghost use Rattle.gates.specs.Code.{gates, Code, AllCodes};
-ghost use Rattle.gates.proofs.Normal.{Normal};
+ghost use Rattle.gates.specs.Code.{Code, AllCodes};
 ghost use Rattle.reduction.specs.Partner.{passing, Meets, Search, Enters};
-ghost use Rattle.reduction.specs.Bounds.{Bounded, Smaller, Past, Start, Moved, Each, Noted};
-ghost use Rattle.reduction.specs.Pushed.{Pushable, Pushed, PushedAll, ReducedTo};
+ghost use Rattle.reduction.specs.Bounds.{Bounds, highest, moved-bound, noted};
+ghost use Rattle.reduction.specs.Pushed.{Pushable, Pushed};
+ghost use Rattle.reduction.specs.Reducing.{ReducedTo};
 
 // Where the partner of a gate stands: at a place; or nowhere, and then how far to the left the gate comes.
-pub enum Partner {
+enum Partner {
     At(usize),
     Nowhere(usize),
 }
 
 // Whether two gates pass: neither's target is the other's control.
-pub fn passes(g: u16, h: u16) -> bool
+fn passes(g: u16, h: u16) -> bool
     ensures { λ r. ⌜ r ≡ passing g h ⌝ }
 {
     let target = h / 132;
@@ -33,9 +32,9 @@ pub fn passes(g: u16, h: u16) -> bool
     true
 }
 
-// The smaller of two places: what is below both is below it.
+// The smaller of two places.
 fn smaller(a: u16, b: u16) -> u16
-    ensures { λ r. ⌜ Smaller a b r ⌝ }
+    ensures { λ r. ⌜ r ≡ min a b ⌝ }
 {
     if a < b {
         return a;
@@ -45,7 +44,7 @@ fn smaller(a: u16, b: u16) -> u16
 
 // The larger of two places.
 fn larger(a: u16, b: u16) -> u16
-    ensures { λ r. ⌜ (a ≤ r) × (b ≤ r) ⌝ }
+    ensures { λ r. ⌜ r ≡ max a b ⌝ }
 {
     if a < b {
         return b;
@@ -55,10 +54,9 @@ fn larger(a: u16, b: u16) -> u16
 
 // A place from which on no gate is g's partner or blocks g, by the bounds: a partner has g's target and control, a gate that does not pass g has
 // g's target as its control or g's control as its target.
-fn highest_place(last: &[u16], g: u16) -> u16
-    requires { ⌜ length (now last) ≡ 66 ⌝ }
+fn highest_place(last: &[u16; 66], g: u16) -> u16
     requires { ⌜ Code 32 g ⌝ }
-    ensures { λ r. ⌜ Past (now (last .entry)) g r ⌝ }
+    ensures { λ r. ⌜ r ≡ highest (now (last .entry)) g ⌝ }
 {
     let target = (g / 132) as usize;
     let slot = (g / 4 % 33) as usize;
@@ -67,26 +65,25 @@ fn highest_place(last: &[u16], g: u16) -> u16
 }
 
 // The place at which the search for g's partner in the first n gates starts, going left.
-fn start_of_search(last: &[u16], n: usize, g: u16) -> usize
-    requires { ⌜ length (now last) ≡ 66 ⌝ }
+fn start_of_search(last: &[u16; 66], n: usize, g: u16) -> usize
     requires { ⌜ Code 32 g ⌝ }
-    ensures { λ r. ⌜ Start (now (last .entry)) n g r ⌝ }
+    ensures { λ r. ⌜ r ≡ min (highest (now (last .entry)) g) n ⌝ }
 {
-    let b = highest_place(last, g) as usize;
-    if b < n {
-        return b;
+    let place = highest_place(last, g) as usize;
+    if place < n {
+        return place;
     }
     n
 }
 
 // The partner of g in the first n gates: one of its control and target that passes alone bring beside it.
-pub fn find_partner(list: &[u16], n: usize, g: u16) -> Partner
-    requires { ⌜ (n ≤ 4096) × (4162 ≤ length (now list)) ⌝ }
+fn find_partner(list: &[u16], last: &[u16; 66], n: usize, g: u16) -> Partner
+    requires { ⌜ n ≤ length (now list) ⌝ }
     requires { ⌜ Code 32 g ⌝ }
-    requires { ⌜ Bounded (now list) n ⌝ }
+    requires { ⌜ Bounds (take n (now list)) (now last) ⌝ }
     ensures { λ r. ⌜ Search (take n (now (list .entry))) g r ⌝ }
 {
-    let mut b = start_of_search(&list[4096..4162], n, g);
+    let mut b = start_of_search(last, n, g);
     while 0 < b {
         let p = b - 1;
         let a = list[p];
@@ -147,7 +144,7 @@ fn insert(list: &mut [u16], i: usize, n: usize, g: u16)
 // A bound, when the gates after place i of the first n move by up - down places.
 fn moved(x: u16, i: u16, n: u16, up: u16, down: u16) -> u16
     requires { ⌜ (n + up < 65536) × (down ≤ 1) ⌝ }
-    ensures { λ r. ⌜ Moved i n up down x r ⌝ }
+    ensures { λ r. ⌜ r ≡ moved-bound i n up down x ⌝ }
 {
     if i < x {
         if x <= n {
@@ -157,11 +154,11 @@ fn moved(x: u16, i: u16, n: u16, up: u16, down: u16) -> u16
     x
 }
 
-// Moves each bound so.
-fn move_all(last: &mut [u16], i: u16, n: u16, up: u16, down: u16)
+// Moves each bound so. (The length of an array behind a reference is no fact that a proof is given, so it is asked for.)
+fn move_all(last: &mut [u16; 66], i: u16, n: u16, up: u16, down: u16)
     requires { ⌜ length (now last) ≡ 66 ⌝ }
     requires { ⌜ (n + up < 65536) × (down ≤ 1) ⌝ }
-    ensures { λ _. ⌜ Each (Moved i n up down) (now (last .entry)) (now (last .exit)) ⌝ }
+    ensures { λ _. ⌜ now (last .exit) ≡ map (moved-bound i n up down) (now (last .entry)) ⌝ }
 {
     let mut k = 0;
     while k < 66 {
@@ -171,10 +168,10 @@ fn move_all(last: &mut [u16], i: u16, n: u16, up: u16, down: u16)
 }
 
 // Keeps the bounds, when g has entered at place i of the first n.
-fn note_entry(last: &mut [u16], i: u16, n: u16, g: u16)
+fn note_entry(last: &mut [u16; 66], i: u16, n: u16, g: u16)
     requires { ⌜ (length (now last) ≡ 66) × (i ≤ n) × (n < 65535) ⌝ }
     requires { ⌜ Code 32 g ⌝ }
-    ensures { λ _. ⌜ Noted (now (last .entry)) i n g (now (last .exit)) ⌝ }
+    ensures { λ _. ⌜ now (last .exit) ≡ noted (now (last .entry)) i n g ⌝ }
 {
     let target = (g / 132) as usize + 1;
     let control = 33 + (g / 4 % 33) as usize;
@@ -185,18 +182,18 @@ fn note_entry(last: &mut [u16], i: u16, n: u16, g: u16)
 }
 
 // Merges g into its partner at i: the powers add modulo 4, and a power of 0 is no gate.
-fn merge(list: &mut [u16], n: usize, i: usize, g: u16) -> usize
-    requires { ⌜ Pushable (now list) n g ⌝ }
+fn merge(list: &mut [u16], last: &mut [u16; 66], n: usize, i: usize, g: u16) -> usize
+    requires { ⌜ Pushable (now list) (now last) n g ⌝ }
     requires { ⌜ Meets (take n (now list)) g i ⌝ }
     requires { ⌜ i < n ⌝ }
-    ensures { λ r. ⌜ Pushed (now (list .entry)) n g r (now (list .exit)) ⌝ }
+    ensures { λ r. ⌜ Pushed (now (list .entry)) n g r (now (list .exit)) (now (last .exit)) ⌝ }
 {
     let a = list[i];
     let power = (a % 4 + g % 4) % 4;
     if power == 0 {
         let fewer = n - 1;
         remove(list, i, n);
-        move_all(&mut list[4096..4162], i as u16, n as u16, 0, 1);
+        move_all(last, i as u16, n as u16, 0, 1);
         return fewer;
     }
     list[i] = a / 4 * 4 + power;
@@ -204,67 +201,55 @@ fn merge(list: &mut [u16], n: usize, i: usize, g: u16) -> usize
 }
 
 // Puts g, which has no partner, in at its place.
-fn enter(list: &mut [u16], n: usize, b: usize, g: u16) -> usize
-    requires { ⌜ Pushable (now list) n g ⌝ }
+fn enter(list: &mut [u16], last: &mut [u16; 66], n: usize, b: usize, g: u16) -> usize
+    requires { ⌜ Pushable (now list) (now last) n g ⌝ }
     requires { ⌜ Search (take n (now list)) g (Partner.Nowhere b) ⌝ }
-    ensures { λ r. ⌜ Pushed (now (list .entry)) n g r (now (list .exit)) ⌝ }
+    ensures { λ r. ⌜ Pushed (now (list .entry)) n g r (now (list .exit)) (now (last .exit)) ⌝ }
 {
     let i = entry_place(list, b, n, g);
     insert(list, i, n, g);
-    note_entry(&mut list[4096..4162], i as u16, n as u16, g);
+    note_entry(last, i as u16, n as u16, g);
     n + 1
 }
 
 // Pushes g onto the first n gates, and gives their new number.
-pub fn push(list: &mut [u16], n: usize, g: u16) -> usize
-    requires { ⌜ Pushable (now list) n g ⌝ }
-    ensures { λ r. ⌜ Pushed (now (list .entry)) n g r (now (list .exit)) ⌝ }
+fn push(list: &mut [u16], last: &mut [u16; 66], n: usize, g: u16) -> usize
+    requires { ⌜ Pushable (now list) (now last) n g ⌝ }
+    ensures { λ r. ⌜ Pushed (now (list .entry)) n g r (now (list .exit)) (now (last .exit)) ⌝ }
 {
-    let found = find_partner(list, n, g);
+    let found = find_partner(list, last, n, g);
     match found {
-        Partner::At(i) => merge(list, n, i, g),
-        Partner::Nowhere(b) => enter(list, n, b, g),
+        Partner::At(i) => merge(list, last, n, i, g),
+        Partner::Nowhere(lowest) => enter(list, last, n, lowest, g),
     }
 }
 
-// Pushes the gates from n up to m, in turn, onto the first n.
-pub fn push_all(list: &mut [u16], n: usize, m: usize) -> usize
-    requires { ⌜ (n ≤ m) × (m ≤ 4096) × (4162 ≤ length (now list)) ⌝ }
-    requires { ⌜ AllCodes 32 (take m (now list)) ⌝ }
-    requires { ⌜ Normal (gates (take n (now list))) ⌝ }
-    requires { ⌜ Bounded (now list) n ⌝ }
-    ensures { λ r. ⌜ PushedAll (now (list .entry)) n m r (now (list .exit)) ⌝ }
+// Sets the places from r up to m to 0.
+fn clear(list: &mut [u16], r: usize, m: usize)
+    requires { ⌜ (r ≤ m) × (m ≤ length (now list)) ⌝ }
+    ensures { λ _. ⌜ now (list .exit) ≡ take r (now (list .entry)) ++ (replicate (m - r) 0 ++ drop m (now (list .entry))) ⌝ }
 {
-    let mut r = n;
-    let mut i = n;
-    while i < m {
-        let g = list[i];
-        r = push(list, r, g);
-        i += 1;
-    }
-    r
-}
-
-// Sets the bounds to 0.
-pub fn clear_bounds(last: &mut [u16])
-    requires { ⌜ length (now last) ≡ 66 ⌝ }
-    ensures { λ _. ⌜ now (last .exit) ≡ replicate 66 0 ⌝ }
-{
-    let mut k = 0;
-    while k < 66 {
-        last[k] = 0;
+    let mut k = r;
+    while k < m {
+        list[k] = 0;
         k += 1;
     }
 }
 
-// Reduces the first m gates, and gives their new number; the bounds are then 0.
+// Reduces the first m gates, and gives their new number; the places of those that are gone are then 0.
 pub fn reduce(list: &mut [u16], m: usize) -> usize
-    requires { ⌜ (m ≤ 4096) × (4162 ≤ length (now list)) ⌝ }
+    requires { ⌜ (m ≤ 4096) × (m ≤ length (now list)) ⌝ }
     requires { ⌜ AllCodes 32 (take m (now list)) ⌝ }
     ensures { λ r. ⌜ ReducedTo (now (list .entry)) m r (now (list .exit)) ⌝ }
 {
-    clear_bounds(&mut list[4096..4162]);
-    let r = push_all(list, 0, m);
-    clear_bounds(&mut list[4096..4162]);
+    let mut last = [0u16; 66];
+    let mut r = 0;
+    let mut i = 0;
+    while i < m {
+        let g = list[i];
+        r = push(list, &mut last, r, g);
+        i += 1;
+    }
+    clear(list, r, m);
     r
 }

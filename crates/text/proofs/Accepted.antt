@@ -22,7 +22,7 @@ use Rattle.gates.proofs.Reach.{all-valid-append}
 use Rattle.cascades.proofs.Valid.{expansion-fits}
 use Rattle.text.specs.declared.Refusal.{Refusal}
 use Rattle.text.specs.declared.Head.{Head}
-use Rattle.text.specs.Text.{Form, lines, gate, mct, rendered, Proper, AllProper, cascade-text, circuit-text}
+use Rattle.text.specs.Text.{Form, lines, gate, mct, rendered, as-forms, Proper, AllProper, cascade-text, circuit-text}
 use Rattle.text.specs.Reading.{Line, in-form, unformed, read, cut}
 use Rattle.text.specs.declared.Kind.{Kind}
 use Rattle.text.specs.declared.Kind.the-variants.{Cascade, Circuit}
@@ -61,7 +61,7 @@ pub record Good (k : Kind) (n : ℕ) (f : Form) : Type 0 where
   pub inside : any-from n (target f ∷ controls f) ≡ false
   pub apart : has (target f) (controls f) ≡ false
   pub ordered : rising (controls f) ≡ true
-  pub spare : (leb 3 (length (controls f)) && eqb n (length (controls f) + 1)) ≡ false
+  pub unnamed-line : (leb 3 (length (controls f)) && eqb n (length (controls f) + 1)) ≡ false
 
 abbrev pub AllGood : Kind → ℕ → List Form → Type 0
 AllGood k n = Every (Good k n)
@@ -88,7 +88,7 @@ keeps k h before c f p e =
     let e9 = kept _ _ _ (e8 .1) in
     let u = neither (ltb (most k) (before + 1)) (ltb 4096 (length (c ++ gates (h .lines) f))) (e9 .0) in
     record {
-      good = record { proper = p; belonging = not-false (belongs k f) (e3 .0); inside = e4 .0; apart = e5 .0; ordered = not-false (rising (controls f)) (e6 .0); spare = e8 .0 };
+      good = record { proper = p; belonging = not-false (belongs k f) (e3 .0); inside = e4 .0; apart = e5 .0; ordered = not-false (rising (controls f)) (e6 .0); unnamed-line = e8 .0 };
       narrow = ltb-false 15 (length (controls f)) (e7 .0);
       few = ltb-false (most k) (before + 1) (u .0);
       short = ltb-false 4096 (length (c ++ gates (h .lines) f)) (u .1);
@@ -219,7 +219,7 @@ unfolding controls target
 expandable n cs t g =
     let b = target-below n t cs (g .inside) in
     let k = length cs in
-    (by-rules n cs t (b .0) (b .1) (g .apart) (rising-distinct cs (g .ordered)) (λ m. eqb-false n (k + 1) (rw (le-leb 3 k m) at (g .spare))), b .1)
+    (by-rules n cs t (b .0) (b .1) (g .apart) (rising-distinct cs (g .ordered)) (λ m. eqb-false n (k + 1) (rw (le-leb 3 k m) at (g .unnamed-line))), b .1)
 
 pub good-valid : (k : Kind) (n : ℕ) (f : Form) → Good k n f → AllValid n (gates n f)
 unfolding gates controls target belongs has Below
@@ -246,9 +246,6 @@ text-valid {k} {n} w = rw (w .whole) (made-valid k n (w .forms) (w .good))
 
 -- ---- a cascade
 
-abbrev pub as-forms : List Controlled → List Form
-as-forms gs = map (λ g. mct (g .controls) (g .target)) gs
-
 pub all-proper : (k : Kind) (n : ℕ) (fs : List Form) → AllGood k n fs → AllProper fs
 all-proper k n = every-follows (Good k n) Proper (λ f g. g .proper)
 
@@ -261,7 +258,7 @@ pub record CascadeOf (n : ℕ) (s : List ℕ) (c : List Gate) : Type 0 where
 
 record Mcts (n : ℕ) (fs : List Form) : Type 0 where
   mcts : List Controlled
-  are : fs ≡ map (λ g. mct (g .controls) (g .target)) mcts
+  are : fs ≡ as-forms mcts
   make : made n fs ≡ expand-all n mcts
   ready : AllExpandable n mcts
 

@@ -11,7 +11,7 @@ use borrow.Author.Tests.{ne-eqb, le-leb, le-ltb, lt-ltb, eqb-true, eqb-false, le
 use Rattle.gates.specs.declared.Gate.the-variants.{Not, Powered}
 use Rattle.meaning.proofs.Flips.{both}
 use Rattle.text.specs.Text.{Short, Proper, rendered, AllProper, Form, lines, gate, mct, bytes, digits, spaced, one, two, word, render}
-use Rattle.text.specs.Reading.{Got, got, none, bind, orElse, strip, digit, second, num, tail, pair, control, controls, list, many, lines-body, not-body, mct-body, powered-body, parse, in-form, unformed, whole, read, longer, cut}
+use Rattle.text.specs.Reading.{Got, got, none, bind, if-got, strip, digit, second, num, tail, pair, control, controls, list, many, lines-body, not-body, mct-body, powered-body, parse, in-form, unformed, whole, read, longer, cut}
 
 -- ---- booleans and answers
 
@@ -22,7 +22,7 @@ unbind : {A B : Type 0} (g : Got A) (f : A → List ℕ → Got B) {b : B} {r : 
 unbind (got a s) f e = (a, s, refl, e)
 unbind none f e = absurd (none-got e)
 
-unelse : {A B : Type 0} (g : Got A) (f : A → List ℕ → Got B) (z : Got B) {b : B} {r : List ℕ} → orElse g f z ≡ got b r → ((a : A) × (s : List ℕ) × (g ≡ got a s) × (f a s ≡ got b r)) ⊎ (z ≡ got b r)
+unelse : {A B : Type 0} (g : Got A) (f : A → List ℕ → Got B) (z : Got B) {b : B} {r : List ℕ} → if-got g f z ≡ got b r → ((a : A) × (s : List ℕ) × (g ≡ got a s) × (f a s ≡ got b r)) ⊎ (z ≡ got b r)
 unelse (got a s) f z e = inl (a, s, refl, e)
 unelse none f z e = inr e
 

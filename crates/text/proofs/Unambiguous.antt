@@ -2,15 +2,12 @@
 -- same text are equal. Assumes nothing.
 use mathlib.Core.Path.{_≡_, refl}
 use mathlib.Core.List.{List, [], _∷_, map}
-use Prim.Native.Nat.{ℕ, _≤_, _<_}
+use Prim.Native.Nat.{ℕ}
 use native.Mathlib.Omega.{arith}
 use Rattle.gates.specs.declared.Gate.{Gate}
-use Rattle.gates.specs.Circuit.{AllValid}
 use Rattle.cascades.specs.Cascade.{Controlled}
-use Rattle.text.specs.Text.{Form, lines, gate, mct, AllProper, circuit-text, cascade-text}
+use Rattle.text.specs.Text.{Form, lines, gate, mct, as-forms, AllProper, circuit-text, cascade-text}
 use Rattle.text.proofs.Printed.{rendered-is}
-use Rattle.text.proofs.Accepted.{as-forms}
-use Rattle.text.proofs.Written.{gates-proper}
 
 nil-cons : {A : Type 0} {a : A} {l : List A} → [] ≡ a ∷ l → ⊥
 nil-cons e = let z : _≡_ {A = ℕ} 0 1 = cc in omega arith
@@ -48,16 +45,12 @@ mcts-is (g ∷ gs) (h ∷ hs) e =
 headed-is : (n m : ℕ) (fs gs : List Form) → lines n ∷ fs ≡ lines m ∷ gs → (n ≡ m) × (fs ≡ gs)
 headed-is n m fs gs e = let i : lines n ≡ lines m = cc in (cc, cc)
 
--- two circuits with the same text are on the same lines and equal
-pub circuit-text-is : (n m : ℕ) (c d : List Gate) → n ≤ 32 → m ≤ 32 → AllValid n c → AllValid m d → circuit-text n c ≡ circuit-text m d → (n ≡ m) × (c ≡ d)
+-- two circuits with the same text are on the same lines and equal, where their numbers have one or two digits
+pub circuit-text-is : (n m : ℕ) (c d : List Gate) → AllProper (lines n ∷ map gate c) → AllProper (lines m ∷ map gate d) → circuit-text n c ≡ circuit-text m d → (n ≡ m) × (c ≡ d)
 unfolding circuit-text
-circuit-text-is n m c d h k v w e =
-    let q = headed-is n m (map gate c) (map gate d) (rendered-is (lines n ∷ map gate c) (lines m ∷ map gate d) (omega arith, gates-proper n c h v) (omega arith, gates-proper m d k w) e) in
-    (q .0, gates-is c d (q .1))
+circuit-text-is n m c d p q e = let r = headed-is n m (map gate c) (map gate d) (rendered-is (lines n ∷ map gate c) (lines m ∷ map gate d) p q e) in (r .0, gates-is c d (r .1))
 
--- two cascades whose numbers have one or two digits
-pub cascade-text-is : (n m : ℕ) (gs hs : List Controlled) → n < 100 → m < 100 → AllProper (as-forms gs) → AllProper (as-forms hs) → cascade-text n gs ≡ cascade-text m hs → (n ≡ m) × (gs ≡ hs)
+-- and so are two cascades
+pub cascade-text-is : (n m : ℕ) (gs hs : List Controlled) → AllProper (lines n ∷ as-forms gs) → AllProper (lines m ∷ as-forms hs) → cascade-text n gs ≡ cascade-text m hs → (n ≡ m) × (gs ≡ hs)
 unfolding cascade-text
-cascade-text-is n m gs hs h k p q e =
-    let r = headed-is n m (as-forms gs) (as-forms hs) (rendered-is (lines n ∷ as-forms gs) (lines m ∷ as-forms hs) (h, p) (k, q) e) in
-    (r .0, mcts-is gs hs (r .1))
+cascade-text-is n m gs hs p q e = let r = headed-is n m (as-forms gs) (as-forms hs) (rendered-is (lines n ∷ as-forms gs) (lines m ∷ as-forms hs) p q e) in (r .0, mcts-is gs hs (r .1))

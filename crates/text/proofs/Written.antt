@@ -15,11 +15,11 @@ use Rattle.meaning.specs.Pattern.{has}
 use Rattle.cascades.specs.Expansion.{_⨾_, expansion}
 use Rattle.cascades.specs.Cascade.{Controlled, expand-all}
 use Rattle.text.specs.declared.Head.{Head}
-use Rattle.text.specs.Text.{Form, lines, gate, mct, rendered, Proper, AllProper, circuit-text, cascade-text}
+use Rattle.text.specs.Text.{Form, lines, gate, mct, rendered, as-forms, Proper, AllProper, circuit-text, cascade-text}
 use Rattle.text.specs.declared.Kind.{Kind}
 use Rattle.text.specs.declared.Kind.the-variants.{Cascade, Circuit}
 use Rattle.text.specs.Judging.{accepted, controls, target, gates, belongs, most, any-from, rising, sound, first, head-rules, rules, or-else, judge-lines, judge-text, judge}
-use Rattle.text.proofs.Accepted.{Good, AllGood, made, formed, read-rendered, all-proper, as-forms}
+use Rattle.text.proofs.Accepted.{Good, AllGood, made, formed, read-rendered, all-proper}
 
 -- ---- either text
 
@@ -30,7 +30,7 @@ AllNarrow = Every (λ f. length (controls f) ≤ 15)
 good-kept : (k : Kind) (h : Head) (before : ℕ) (c : List Gate) (f : Form) → Good k (h .lines) f → length (controls f) ≤ 15 → before + 1 ≤ most k → length (c ++ gates (h .lines) f) ≤ 4096 → first (rules k h before c f) ≡ sound
 unfolding first rules
 good-kept k h before c f g w b l =
-    rw (g .belonging, g .inside, g .apart, g .ordered, le-ltb 15 (length (controls f)) w, g .spare, le-ltb (most k) (before + 1) b, le-ltb 4096 (length (c ++ gates (h .lines) f)) l)
+    rw (g .belonging, g .inside, g .apart, g .ordered, le-ltb 15 (length (controls f)) w, g .unnamed-line, le-ltb (most k) (before + 1) b, le-ltb 4096 (length (c ++ gates (h .lines) f)) l)
 
 forms-judged : (k : Kind) (h : Head) (before : ℕ) (c : List Gate) (fs : List Form) → AllGood k (h .lines) fs → AllNarrow fs → before + length fs ≤ most k → length c + length (made (h .lines) fs) ≤ 4096
     → judge-lines k h before c (formed fs) ≡ accepted h (c ++ made (h .lines) fs)
@@ -61,9 +61,9 @@ gates-proper n r h = every-map (Valid n) Proper gate (λ g. gate-proper n h) r
 
 gate-good : (n : ℕ) {g : Gate} → n ≤ 32 → Valid n g → Good Circuit n (gate g)
 unfolding belongs controls target any-from has rising
-gate-good n h (valid-not {t} k) = record { proper = gate-proper n h (valid-not k); belonging = refl; inside = rw (lt-leb n t k); apart = refl; ordered = refl; spare = refl }
+gate-good n h (valid-not {t} k) = record { proper = gate-proper n h (valid-not k); belonging = refl; inside = rw (lt-leb n t k); apart = refl; ordered = refl; unnamed-line = refl }
 gate-good n h (valid-powered {p} {c} {t} x y z k e) =
-    record { proper = gate-proper n h (valid-powered {p = p} x y z k e); belonging = refl; inside = rw (lt-leb n t k, lt-leb n c z); apart = rw (ne-eqb t c (λ q. e (sym q))); ordered = refl; spare = refl }
+    record { proper = gate-proper n h (valid-powered {p = p} x y z k e); belonging = refl; inside = rw (lt-leb n t k, lt-leb n c z); apart = rw (ne-eqb t c (λ q. e (sym q))); ordered = refl; unnamed-line = refl }
 
 gates-good : (n : ℕ) (r : List Gate) → n ≤ 32 → AllValid n r → AllGood Circuit n (map gate r)
 gates-good n r h = every-map (Valid n) (Good Circuit n) gate (λ g. gate-good n h) r

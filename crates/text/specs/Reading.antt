@@ -18,9 +18,9 @@ bind (got a s) f = f a s
 bind none f = none
 
 -- the first, where it is there, else the second
-abbrev pub orElse : {A B : Type 0} → Got A → (A → List ℕ → Got B) → Got B → Got B
-orElse (got a s) f z = f a s
-orElse none f z = z
+abbrev pub if-got : {A B : Type 0} → Got A → (A → List ℕ → Got B) → Got B → Got B
+if-got (got a s) f z = f a s
+if-got none f z = z
 
 -- the text after a word
 unfoldable pub strip : List ℕ → List ℕ → Got (Unit {0})
@@ -50,7 +50,7 @@ pair s = bind (num s) (λ c s′. bind (strip (bytes " ") s′) (λ _ s″. bind
 
 -- a control, and whether another comes after it: a space, or `)`
 unfoldable pub control : List ℕ → Got (ℕ × Bool)
-control s = bind (num s) (λ c s′. orElse (strip (bytes " ") s′) (λ _ s″. got (c, true) s″) (bind (strip (bytes ")") s′) (λ _ s″. got (c, false) s″)))
+control s = bind (num s) (λ c s′. if-got (strip (bytes " ") s′) (λ _ s″. got (c, true) s″) (bind (strip (bytes ")") s′) (λ _ s″. got (c, false) s″)))
 
 -- controls up to the `)`, at most k of them
 unfoldable pub controls : ℕ → List ℕ → Got (List ℕ)
@@ -59,7 +59,7 @@ controls (suc k) s = bind (control s) (λ c s′. cond (c .1) (bind (controls k 
 
 -- after `(mct (`: none, or some
 unfoldable pub list : List ℕ → Got (List ℕ)
-list s = orElse (strip (bytes ")") s) (λ _ s′. got [] s′) (controls (length s) s)
+list s = if-got (strip (bytes ")") s) (λ _ s′. got [] s′) (controls (length s) s)
 
 unfoldable pub many : List ℕ → Got (List ℕ × ℕ)
 many s = bind (list s) (λ cs s′. bind (strip (bytes " ") s′) (λ _ s″. bind (tail s″) (λ t s‴. got (cs, t) s‴)))
@@ -79,11 +79,11 @@ powered-body p s = bind (pair s) (λ c. got (gate (Powered p (c .0) (c .1))))
 
 unfoldable pub parse : List ℕ → Got Form
 parse s =
-    orElse (strip (bytes "(lines ") s) (λ _. lines-body)
-    (orElse (strip (bytes "(not ") s) (λ _. not-body)
-    (orElse (strip (bytes "(cn ") s) (λ _. powered-body 2)
-    (orElse (strip (bytes "(v ") s) (λ _. powered-body 1)
-    (orElse (strip (bytes "(vp ") s) (λ _. powered-body 3)
+    if-got (strip (bytes "(lines ") s) (λ _. lines-body)
+    (if-got (strip (bytes "(not ") s) (λ _. not-body)
+    (if-got (strip (bytes "(cn ") s) (λ _. powered-body 2)
+    (if-got (strip (bytes "(v ") s) (λ _. powered-body 1)
+    (if-got (strip (bytes "(vp ") s) (λ _. powered-body 3)
     (bind (strip (bytes "(mct (") s) (λ _. mct-body))))))
 
 -- a whole line, its byte 10 included

@@ -58,9 +58,13 @@ unfoldable pub rendered : List Form → List ℕ
 rendered [] = []
 rendered (f ∷ fs) = render f ++ rendered fs
 
+-- the forms of a cascade
+abbrev pub as-forms : List Controlled → List Form
+as-forms gs = map (λ g. mct (g .controls) (g .target)) gs
+
 -- a cascade text, and a circuit text
 unfoldable pub cascade-text : ℕ → List Controlled → List ℕ
-cascade-text n gs = rendered (lines n ∷ map (λ g. mct (g .controls) (g .target)) gs)
+cascade-text n gs = rendered (lines n ∷ as-forms gs)
 
 unfoldable pub circuit-text : ℕ → List Gate → List ℕ
 circuit-text n c = rendered (lines n ∷ map gate c)

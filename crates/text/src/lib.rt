@@ -28,17 +28,17 @@ pub struct Head {
 }
 
 // The words of the two texts, each with the bracket before it and the space after it.
-pub const LINES: [u8; 7] = [b'(', b'l', b'i', b'n', b'e', b's', b' '];
+pub const LINES: [u8; 7] = *b"(lines ";
 
-pub const MCT: [u8; 6] = [b'(', b'm', b'c', b't', b' ', b'('];
+pub const MCT: [u8; 6] = *b"(mct (";
 
-pub const NOT: [u8; 5] = [b'(', b'n', b'o', b't', b' '];
+pub const NOT: [u8; 5] = *b"(not ";
 
-pub const CN: [u8; 4] = [b'(', b'c', b'n', b' '];
+pub const CN: [u8; 4] = *b"(cn ";
 
-pub const V: [u8; 3] = [b'(', b'v', b' '];
+pub const V: [u8; 3] = *b"(v ";
 
-pub const VP: [u8; 4] = [b'(', b'v', b'p', b' '];
+pub const VP: [u8; 4] = *b"(vp ";
 
 // The number of a refusal in document 01's table.
 pub fn number(r: Refusal) -> u8

@@ -7,10 +7,10 @@ use native.Mathlib.Numerals.{add-one}
 use native.Mathlib.Omega.{arith}
 use lib.ListN.{length, take, drop, getD, set, length-append, take-append-drop}
 use lib.Seq.{take-length, length-take-le, take-at, drop-at, drop-drop, set-split, paste, paste-suc}
-use Rattle.writing.specs.Written.{written, Writes}
+use Rattle.writing.specs.Written.{written, Puts}
 
 -- a copy of all of w
-pub copied : (l m w : List ℕ) (at i : ℕ) → i ≡ length w → m ≡ paste l at w i → Writes l m at (at + length w) w
+pub copied : (l m w : List ℕ) (at i : ℕ) → i ≡ length w → m ≡ paste l at w i → Puts l m at (at + length w) w
 unfolding written
 copied l m w at i e q = record { place = refl; bytes = q ∙ rw (e, take-length) (append-assoc (take at l) w (drop (at + length w) l)) }
 
@@ -19,22 +19,22 @@ pub copied-more : (l m w : List ℕ) (at i : ℕ) → at + length w ≤ length l
 copied-more l m w at i h k q = rw (q, add-one) (paste-suc l at w i 0 (omega arith) k)
 
 -- nothing
-pub nothing : (l : List ℕ) (at : ℕ) → Writes l l at at []
+pub nothing : (l : List ℕ) (at : ℕ) → Puts l l at at []
 unfolding written
 nothing l at = record { place = sym (add-zero at); bytes = rw (add-zero at) (sym (take-append-drop at l)) }
 
 -- one byte
-pub one-byte : (l : List ℕ) (at b : ℕ) → at < length l → Writes l (set l at b) at (at + 1) (b ∷ [])
+pub one-byte : (l : List ℕ) (at b : ℕ) → at < length l → Puts l (set l at b) at (at + 1) (b ∷ [])
 unfolding written
 one-byte l at b h = record { place = refl; bytes = rw add-one (set-split l at b h) }
 
 -- at the front
-pub at-front : {l m w : List ℕ} {n : ℕ} → Writes l m 0 n w → (n ≡ length w) × (m ≡ w ++ drop n l)
+pub at-front : {l m w : List ℕ} {n : ℕ} → Puts l m 0 n w → (n ≡ length w) × (m ≡ w ++ drop n l)
 unfolding written
 at-front {l} {m} {w} {n} a = let e : n ≡ length w = omega arith in let f : 0 + length w ≡ n = omega arith in (e, rw f at (a .bytes))
 
 -- two writes, the second behind the first, are the write of both
-pub both : {l m n : List ℕ} {at p q : ℕ} {u v w : List ℕ} → w ≡ u ++ v → at + length w ≤ length l → Writes l m at p u → Writes m n p q v → Writes l n at q w
+pub both : {l m n : List ℕ} {at p q : ℕ} {u v w : List ℕ} → w ≡ u ++ v → at + length w ≤ length l → Puts l m at p u → Puts m n p q v → Puts l n at q w
 unfolding written
 both {l} {m} {n} {at} {p} {q} {u} {v} {w} e h a b =
     let k = ap length e ∙ length-append u v in

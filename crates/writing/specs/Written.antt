@@ -11,7 +11,7 @@ unfoldable pub written : List ℕ → ℕ → List ℕ → List ℕ
 written l at w = take at l ++ (w ++ drop (at + length w) l)
 
 -- of the bytes before, w written at `at` makes the bytes after, and next is the place behind w
-pub record Writes (before after : List ℕ) (at next : ℕ) (w : List ℕ) : Type 0 where
+pub record Puts (before after : List ℕ) (at next : ℕ) (w : List ℕ) : Type 0 where
   pub place : next ≡ at + length w
   pub bytes : after ≡ written before at w
 

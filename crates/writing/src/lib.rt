@@ -5,7 +5,7 @@ ghost use Prim.Native.Nat.{_+_, _≤_, _<_};
 ghost use lib.ListN.{length, take, drop};
 ghost use Rattle.gates.specs.Code.{gates, AllCodes};
 ghost use Rattle.text.specs.Text.{gate, word, render, Proper, circuit-text};
-ghost use Rattle.writing.specs.Written.{Writes, gate-lines};
+ghost use Rattle.writing.specs.Written.{Puts, gate-lines};
 ghost use Rattle.writing.specs.Decimal.{decimal, one-number, two-numbers, turned-away, quote};
 use gates::Gate;
 use text::Head;
@@ -13,7 +13,7 @@ use text::Head;
 // Writes bytes at a place, and gives the place behind them, as each `put` below does.
 fn put(out: &mut [u8], at: usize, bytes: &[u8]) -> usize
     requires { ⌜ at + length (now bytes) ≤ length (now out) ⌝ }
-    ensures { λ r. ⌜ Writes (now (out .entry)) (now (out .exit)) at r (now (bytes .entry)) ⌝ }
+    ensures { λ r. ⌜ Puts (now (out .entry)) (now (out .exit)) at r (now (bytes .entry)) ⌝ }
 {
     let n = bytes.len();
     let mut i = 0;
@@ -26,7 +26,7 @@ fn put(out: &mut [u8], at: usize, bytes: &[u8]) -> usize
 
 fn put_digit(out: &mut [u8], at: usize, d: usize) -> usize
     requires { ⌜ (d < 10) × (at < length (now out)) ⌝ }
-    ensures { λ r. ⌜ Writes (now (out .entry)) (now (out .exit)) at r ((48 + d) ∷ []) ⌝ }
+    ensures { λ r. ⌜ Puts (now (out .entry)) (now (out .exit)) at r ((48 + d) ∷ []) ⌝ }
 {
     out[at] = 48 + d as u8;
     at + 1
@@ -35,7 +35,7 @@ fn put_digit(out: &mut [u8], at: usize, d: usize) -> usize
 // A number in decimal.
 fn put_number(out: &mut [u8], at: usize, n: usize) -> usize
     requires { ⌜ at + length (decimal n) ≤ length (now out) ⌝ }
-    ensures { λ r. ⌜ Writes (now (out .entry)) (now (out .exit)) at r (decimal n) ⌝ }
+    ensures { λ r. ⌜ Puts (now (out .entry)) (now (out .exit)) at r (decimal n) ⌝ }
 {
     if n < 10 {
         return put_digit(out, at, n);
@@ -47,7 +47,7 @@ fn put_number(out: &mut [u8], at: usize, n: usize) -> usize
 // A number, and the bytes behind it.
 fn put_and(out: &mut [u8], at: usize, n: usize, behind: &[u8]) -> usize
     requires { ⌜ at + (length (decimal n) + length (now behind)) ≤ length (now out) ⌝ }
-    ensures { λ r. ⌜ Writes (now (out .entry)) (now (out .exit)) at r (decimal n ++ now (behind .entry)) ⌝ }
+    ensures { λ r. ⌜ Puts (now (out .entry)) (now (out .exit)) at r (decimal n ++ now (behind .entry)) ⌝ }
 {
     let next = put_number(out, at, n);
     put(out, next, behind)
@@ -56,7 +56,7 @@ fn put_and(out: &mut [u8], at: usize, n: usize, behind: &[u8]) -> usize
 // A form of one number.
 fn put_one(out: &mut [u8], at: usize, opening: &[u8], n: usize) -> usize
     requires { ⌜ at + length (one-number (now opening) n) ≤ length (now out) ⌝ }
-    ensures { λ r. ⌜ Writes (now (out .entry)) (now (out .exit)) at r (one-number (now (opening .entry)) n) ⌝ }
+    ensures { λ r. ⌜ Puts (now (out .entry)) (now (out .exit)) at r (one-number (now (opening .entry)) n) ⌝ }
 {
     let next = put(out, at, opening);
     put_and(out, next, n, b")\n")
@@ -65,7 +65,7 @@ fn put_one(out: &mut [u8], at: usize, opening: &[u8], n: usize) -> usize
 // A form of two numbers.
 fn put_two(out: &mut [u8], at: usize, opening: &[u8], m: usize, n: usize) -> usize
     requires { ⌜ at + length (two-numbers (now opening) m n) ≤ length (now out) ⌝ }
-    ensures { λ r. ⌜ Writes (now (out .entry)) (now (out .exit)) at r (two-numbers (now (opening .entry)) m n) ⌝ }
+    ensures { λ r. ⌜ Puts (now (out .entry)) (now (out .exit)) at r (two-numbers (now (opening .entry)) m n) ⌝ }
 {
     let first = put(out, at, opening);
     let second = put_and(out, first, m, b" ");
@@ -76,7 +76,7 @@ fn put_two(out: &mut [u8], at: usize, opening: &[u8], m: usize, n: usize) -> usi
 fn put_powered(out: &mut [u8], at: usize, p: u8, c: usize, t: usize) -> usize
     requires { ⌜ (1 ≤ p) × (p ≤ 3) ⌝ }
     requires { ⌜ at + length (two-numbers (word p) c t) ≤ length (now out) ⌝ }
-    ensures { λ r. ⌜ Writes (now (out .entry)) (now (out .exit)) at r (two-numbers (word p) c t) ⌝ }
+    ensures { λ r. ⌜ Puts (now (out .entry)) (now (out .exit)) at r (two-numbers (word p) c t) ⌝ }
 {
     if p == 1 {
         let v = text::V;
@@ -94,7 +94,7 @@ fn put_powered(out: &mut [u8], at: usize, p: u8, c: usize, t: usize) -> usize
 fn put_gate(out: &mut [u8], at: usize, g: Gate) -> usize
     requires { ⌜ Proper (gate g) ⌝ }
     requires { ⌜ at + length (render (gate g)) ≤ length (now out) ⌝ }
-    ensures { λ r. ⌜ Writes (now (out .entry)) (now (out .exit)) at r (render (gate g)) ⌝ }
+    ensures { λ r. ⌜ Puts (now (out .entry)) (now (out .exit)) at r (render (gate g)) ⌝ }
 {
     match g {
         Gate::Not(t) => {
@@ -109,7 +109,7 @@ fn put_gate(out: &mut [u8], at: usize, g: Gate) -> usize
 fn put_gates(out: &mut [u8], at: usize, list: &[u16], m: usize) -> usize
     requires { ⌜ (m ≤ length (now list)) × AllCodes 32 (take m (now list)) ⌝ }
     requires { ⌜ at + length (gate-lines (take m (now list))) ≤ length (now out) ⌝ }
-    ensures { λ r. ⌜ Writes (now (out .entry)) (now (out .exit)) at r (gate-lines (take m (now (list .entry)))) ⌝ }
+    ensures { λ r. ⌜ Puts (now (out .entry)) (now (out .exit)) at r (gate-lines (take m (now (list .entry)))) ⌝ }
 {
     let mut next = at;
     let mut done = 0;

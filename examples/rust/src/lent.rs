@@ -20,7 +20,7 @@ pub fn quote(text: &[u8], list: &mut [u16]) -> Result<usize, Refusal> {
     result(ffi::quote(text, list))
 }
 
-/// The gate of a record, if it is one.
+/// The gate of a record; none for a number that no gate on 32 lines has.
 pub fn gate(record: u16) -> Option<Gate> {
     let [kind, control, target] = ffi::gate(record);
     match kind {

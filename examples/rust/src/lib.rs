@@ -53,9 +53,42 @@ pub struct Refusal {
     pub line: u64,
 }
 
+impl Number {
+    /// The refusal in a customer's words.
+    pub fn words(self) -> &'static str {
+        match self {
+            Number::Overlong => "the text is longer than 60,000 bytes",
+            Number::ShortList => "the service lent a gate list of fewer than 4,096 records",
+            Number::Malformed => "this line of the text is not written in the form asked for",
+            Number::NoSuchLine => {
+                "this line of the text names a line that the circuit does not have \
+                 (or line 1 of the text asks for none, or for more than 32)"
+            }
+            Number::Crossed => "a gate is controlled by its own target",
+            Number::Unsorted => "the controls are not in rising order",
+            Number::TooWide => "a gate has more than 15 controls",
+            Number::NoSpare => {
+                "a gate with three or more controls uses every line of the circuit: \
+                 add a line to the circuit"
+            }
+            Number::TooMany => {
+                "too many gates: the 257th of a cascade, an expansion past 4,096, \
+                 or the 4,097th of a circuit"
+            }
+            Number::ShortAnswer => "the service lent an answer area that is too short",
+        }
+    }
+}
+
 impl fmt::Display for Refusal {
     fn fmt(&self, f: &mut fmt::Formatter<'_>) -> fmt::Result {
-        write!(f, "(turned-away {} {})", self.number as u64, self.line)
+        let Refusal { number, line } = *self;
+        write!(
+            f,
+            "(turned-away {} {line}): {}",
+            number as u64,
+            number.words()
+        )
     }
 }
 

@@ -140,7 +140,10 @@ fn refusals() {
         refused(Number::Malformed, 2)
     );
     assert_eq!(map(b""), refused(Number::Malformed, 1));
-    assert_eq!(map(b"").unwrap_err().to_string(), "(turned-away 3 1)");
+    assert_eq!(
+        map(b"").unwrap_err().to_string(),
+        "(turned-away 3 1): this line of the text is not written in the form asked for"
+    );
 }
 
 #[test]
@@ -177,5 +180,38 @@ fn lent_memory() {
         refused(Number::ShortList, 0)
     );
     assert_eq!(list, [7; 4095]);
-    assert_eq!(lent::gate(4224), None);
+}
+
+/// The words are those of README's table.
+#[test]
+fn refusals_in_words() {
+    let page = include_str!("../../../README.md");
+    let numbers = [
+        Number::Overlong,
+        Number::ShortList,
+        Number::Malformed,
+        Number::NoSuchLine,
+        Number::Crossed,
+        Number::Unsorted,
+        Number::TooWide,
+        Number::NoSpare,
+        Number::TooMany,
+        Number::ShortAnswer,
+    ];
+    for (place, number) in numbers.into_iter().enumerate() {
+        let row = format!("| {} | {} |", place + 1, number.words());
+        assert_eq!(number as usize, place + 1);
+        assert!(page.lines().any(|line| line == row), "{row}");
+    }
+}
+
+#[test]
+fn numbers_that_no_gate_has() {
+    // A NOT has power 2, no other gate has power 0 or its target as control, and
+    // 4,224 would be on line 32.
+    for record in [0, 1, 3, 4, 5, 6, 7, 8, 4224, u16::MAX] {
+        assert_eq!(lent::gate(record), None);
+    }
+    let gates = (0..=u16::MAX).filter_map(lent::gate).count();
+    assert_eq!(gates, 32 + 32 * 31 * 3);
 }

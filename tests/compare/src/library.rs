@@ -382,10 +382,12 @@ impl Library {
         }
     }
 
-    /// Each gate on 32 lines is read from its record; larger numbers are no gate's.
+    /// Every number is read as the peer reads it, and as a table of all gates on
+    /// 32 lines has it; kind 0 if no gate has it.
     fn records(&mut self) {
+        let mut table = vec![[0; 3]; 1 << 16];
         for gate in circuit::every_gate(32) {
-            let expected = match gate {
+            table[usize::from(gate.record())] = match gate {
                 Gate::Not { target } => [4, 0, target],
                 Gate::Powered {
                     power,
@@ -393,17 +395,19 @@ impl Library {
                     target,
                 } => [power, control, target],
             };
-            self.record(gate.record(), expected);
         }
-        for record in 32 * 132..=u16::MAX {
-            self.record(record, [0; 3]);
+        for (record, expected) in (0..=u16::MAX).zip(table) {
+            let got = read_record(record);
+            let read = match peer::gate::Gate::of_number(record) {
+                None => [0; 3],
+                Some(gate) => match gate.control() {
+                    None => [4, 0, gate.target()],
+                    Some(control) => [gate.power(), control, gate.target()],
+                },
+            };
+            self.report.case(got == expected && got == read, || {
+                format!("record {record}: got {got:?}, expected {expected:?}, the peer {read:?}")
+            });
         }
-    }
-
-    fn record(&mut self, record: u16, expected: [u8; 3]) {
-        let got = read_record(record);
-        self.report.case(got == expected, || {
-            format!("record {record}: got {got:?}, expected {expected:?}")
-        });
     }
 }

@@ -45,6 +45,24 @@ impl Gate {
         (u16::from(self.target) * 33 + u16::from(self.slot)) * 4 + u16::from(self.power)
     }
 
+    /// The gate on 32 lines that has this number, if there is one: a NOT has
+    /// power 2, any other gate a power of 1 to 3 and a control that is not its
+    /// target.
+    pub fn of_number(number: u16) -> Option<Gate> {
+        let target = number / 132;
+        let slot = number / 4 % 33;
+        let power = number % 4;
+        let one = match slot {
+            0 => power == 2,
+            _ => power != 0 && slot - 1 != target,
+        };
+        (one && target < 32).then_some(Gate {
+            target: target as u8,
+            slot: slot as u8,
+            power: power as u8,
+        })
+    }
+
     /// The gate that undoes this one: v and vp exchanged.
     pub fn undone(self) -> Gate {
         Gate {

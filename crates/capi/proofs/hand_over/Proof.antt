@@ -12,7 +12,7 @@ slice-aggregate-store-codes c = search needs
 store-codes-requires : tie.Need-store-codes-requires
 store-codes-requires c κs =
     let at-start = c .before .before .before .before in
-    let e : length (at-start .args .d .codes) ≡ 4162 = search needs in
+    let e : length (at-start .args .d .codes) ≡ 4096 = search needs in
     record { there = omega (arith, at-start .pre .there, e); few = at-start .pre .few; within = at-start .pre .within }
 
 cast-t11 : tie.Need-cast-t11

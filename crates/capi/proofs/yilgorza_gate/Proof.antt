@@ -1,24 +1,28 @@
 -- `capi::yilgorza_gate` meets its contract. Assumes nothing.
-use mathlib.Core.Path.{ap, _∙_}
-use borrow.Author.Tests.{lt-ltb, le-ltb}
+use native.Mathlib.Omega.{arith}
 use borrow.Author.Needs.{needs}
-use Rattle.capi.specs.Exported.{gate-parts, record-parts}
+use Rattle.gates.proofs.Codes.{below}
+use Rattle.capi.proofs.Numbers.{reads-gate, reads-none}
 use Rattle.capi.proofs.yilgorza_gate.Statement.{statement}
 use Rattle.capi.proofs.yilgorza_gate.Tie as tie
 
+is-code-requires : tie.Need-is-code-requires
+is-code-requires c κs = search needs
+
 decode-requires : tie.Need-decode-requires
-decode-requires c κs = search needs
+decode-requires c κs = below {n = 32} (omega arith) (rw (c .if1 .taken) at (c .before .is-code .ensures))
 
 gate-parts-requires : tie.Need-gate-parts-requires
 gate-parts-requires c κs = search needs
 
 returns : tie.Need-returns
-unfolding record-parts
-returns c = rw (lt-ltb (c .before .before .before .args .code) 4224 (c .before .before .if1 .taken)) (c .gate-parts .ensures ∙ ap gate-parts (c .before .decode .ensures))
+returns c =
+    rw (c .gate-parts .ensures, c .before .decode .ensures)
+    (reads-gate (c .before .before .before .before .args .code) (rw (c .before .before .if1 .taken) at (c .before .before .before .is-code .ensures)))
 
 returns-2 : tie.Need-returns-2
-unfolding record-parts
-returns-2 c = rw (le-ltb (c .before .before .args .code) 4224 (c .before .if1 .left))
+returns-2 c = reads-none (c .before .before .before .args .code) (rw (c .before .if1 .left) at (c .before .before .is-code .ensures))
 
 pub yilgorza-gate-spec : {M : Type 1} → statement M
-yilgorza-gate-spec = tie.close (tie.spec decode-requires gate-parts-requires returns returns-2)
+yilgorza-gate-spec =
+    tie.close (tie.spec is-code-requires decode-requires gate-parts-requires returns returns-2)

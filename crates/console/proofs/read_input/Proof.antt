@@ -13,10 +13,10 @@ use Rattle.console.proofs.read_input.Lts as lts
 use Rattle.console.proofs.read_more.Reads as read-more-reads
 
 abbrev Inv-loop : tie.InvT-loop
-Inv-loop buffer₀ size n₀ buffer n = (n ≤ length buffer₀) × (length buffer ≡ length buffer₀)
+Inv-loop fd buffer₀ size n₀ buffer n = (n ≤ length buffer₀) × (length buffer ≡ length buffer₀)
 
 abbrev μ-loop : tie.MeasureT-loop
-μ-loop buffer₀ size n₀ buffer n = size - n
+μ-loop fd buffer₀ size n₀ buffer n = size - n
 
 loop-holds : tie.Need-loop-holds Inv-loop μ-loop
 loop-holds c = (omega arith, refl)
@@ -26,9 +26,6 @@ read-more-requires c κs = omega (arith, c .before .before .loop .inv)
 
 enum-known-m : tie.Need-enum-known-m Inv-loop μ-loop
 enum-known-m c = search needs
-
-enum-told : tie.Need-enum-told Inv-loop μ-loop
-enum-told c = search needs
 
 same-length : tie.Need-same-length Inv-loop μ-loop
 same-length c = search needs
@@ -67,7 +64,6 @@ read-input-spec =
     loop-holds
     read-more-requires
     enum-known-m
-    enum-told
     same-length
     returns
     same-length-2

@@ -34,11 +34,11 @@ returns c = search needs
 answered : (c : lts.Else1 (read-reads.Asked, read-reads.Learnt) reads.Pre reads.Post) → Count (length (c .before .before .before .before .before .before .args .buffer .now) - c .before .before .before .before .before .before .args .n) (toZ w64 (ofZ w64 (c .before .before .before .read .result)))
 answered c = behind (c .before .before .before .before .before .before .args .n) (c .before .before .before .before .before .before .args .buffer .now) (c .before .before .before .read .result) (record { sfits = c .before .before .before .read .ok }) (c .before .before .before .read .ensures) (c .if1 .left)
 
-cast-t5 : tie.Need-cast-t5
-cast-t5 c = (answered c .sign, omega (arith, answered c .most))
+cast-t6 : tie.Need-cast-t6
+cast-t6 c = (answered c .sign, omega (arith, answered c .most))
 
-add-t9 : tie.Need-add-t9
-add-t9 c = omega (arith, answered c .most)
+add-t10 : tie.Need-add-t10
+add-t10 c = omega (arith, answered c .most)
 
 same-length-2 : tie.Need-same-length-2
 same-length-2 c = search needs
@@ -56,7 +56,7 @@ read-more-spec =
     read-requires
     same-length
     returns
-    cast-t5
-    add-t9
+    cast-t6
+    add-t10
     same-length-2
     returns-2)

@@ -1,7 +1,7 @@
--- `jobs::map_text` meets its contract, by the walk in `Own_tla` of the crate records. Assumes nothing.
+-- `jobs::map_text` meets its contract, by the walk in `Walk_text_own_list_area` of the crate records. Assumes nothing.
 use Rattle.jobs.specs.Jobs.{mapping}
 use Rattle.jobs.specs.Handing.{Said, Own}
-use Rattle.records.proofs.Own_tla.{proved}
+use Rattle.records.proofs.Walk_text_own_list_area.{proved}
 use Rattle.jobs.proofs.map.Symbol as job-def
 use Rattle.jobs.proofs.map.Met as job-thm
 use Rattle.jobs.proofs.map_text.Key.{name as #own}

@@ -1,9 +1,9 @@
--- `jobs::quote` meets its contract, by the walk in `Shape_tl` of the crate records. Assumes nothing.
+-- `jobs::quote` meets its contract, by the walk in `Walk_text_list` of the crate records. Assumes nothing.
 use mathlib.Core.Path.{refl}
 use mathlib.Core.List.{[]}
 use Rattle.jobs.specs.Jobs.{quoting}
 use Rattle.jobs.specs.Handing.{Said, Hands}
-use Rattle.records.proofs.Shape_tl.{proved}
+use Rattle.records.proofs.Walk_text_list.{proved}
 use Rattle.jobs.proofs.quote_codes.Symbol as codes-def
 use Rattle.jobs.proofs.quote_codes.Met as codes-thm
 use Rattle.jobs.proofs.quote.Key.{name as #job}

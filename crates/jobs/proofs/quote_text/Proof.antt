@@ -1,8 +1,8 @@
--- `jobs::quote_text` meets its contract, by the walk in `Own_tl` of the crate records. Assumes nothing.
+-- `jobs::quote_text` meets its contract, by the walk in `Walk_text_own_list` of the crate records. Assumes nothing.
 use mathlib.Core.List.{[]}
 use Rattle.jobs.specs.Jobs.{quoting}
 use Rattle.jobs.specs.Handing.{Said, Own}
-use Rattle.records.proofs.Own_tl.{proved}
+use Rattle.records.proofs.Walk_text_own_list.{proved}
 use Rattle.jobs.proofs.quote.Symbol as job-def
 use Rattle.jobs.proofs.quote.Met as job-thm
 use Rattle.jobs.proofs.quote_text.Key.{name as #own}

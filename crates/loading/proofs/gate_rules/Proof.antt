@@ -1,6 +1,7 @@
 -- `loading::gate_rules` meets its contract. Assumes nothing.
 use borrow.Author.Needs.{needs}
-use Rattle.loading.proofs.Rules.{not-rules, powered-rules}
+use mathlib.Core.Logic.{⊎-elim}
+use Rattle.loading.proofs.Rules.{not-rules, powered-rules, either-first, either-second}
 use Rattle.loading.proofs.gate_rules.Statement.{statement}
 use Rattle.loading.proofs.gate_rules.Tie as tie
 
@@ -13,9 +14,6 @@ try-rules-requires c κs = search needs
 enum-known-g-2 : tie.Need-enum-known-g-2
 enum-known-g-2 c = search needs
 
-either-requires : tie.Need-either-requires
-either-requires c κs = search needs
-
 try-rules-requires-2 : tie.Need-try-rules-requires-2
 try-rules-requires-2 c κs = search needs
 
@@ -27,7 +25,8 @@ returns c = λ l e.
 returns-2 : tie.Need-returns-2
 returns-2 c = λ l e.
     let a = c .before .before .before .before .before .args in
-    rw (c .try-rules2 .ensures, c .before .before .before .g2 .given .1, c .before .either .ensures) (powered-rules (a .head) _ _ _ (a .before) l e)
+    let o = ⊎-elim (λ w. either-first _ _ _ (w .0 .taken) (w .1)) (λ w. either-second _ _ _ (w .0 .left) (w .1)) (c .before .if1 .came) in
+    rw (c .try-rules2 .ensures, c .before .before .before .g2 .given .1, o) (powered-rules (a .head) _ _ _ (a .before) l e)
 
 pub gate-rules-spec : {M : Type 1} → statement M
 gate-rules-spec =
@@ -36,7 +35,6 @@ gate-rules-spec =
     enum-known-g
     try-rules-requires
     enum-known-g-2
-    either-requires
     try-rules-requires-2
     returns
     returns-2)

@@ -6,7 +6,7 @@ use denote.Ref.{now}
 use lib.ListN.{drop}
 use Rattle.reading.specs.Seen.{seen-head}
 use Rattle.reading.proofs.Places.{told}
-use Rattle.loading.proofs.Heads.{no-head, head-outside, begins}
+use Rattle.loading.proofs.Heads.{no-head, head-outside, has-head}
 use Rattle.loading.proofs.head_line.Statement.{statement}
 use Rattle.loading.proofs.head_line.Tie as tie
 
@@ -42,7 +42,7 @@ returns-3 c =
     let a = b .before .before .before .before .args in
     let s = now (a .s) in
     let e = told (seen-head s) (b .before .before .read-head .ensures .0) (b .head .given .1) in
-    begins s (a .at) e (sym (c .before .in-range .ensures) ∙ not-false (c .before .in-range .result) (c .if1 .left)) (rw (b .head .given .1) at (b .before .before .read-head .ensures .1))
+    has-head s (a .at) e (sym (c .before .in-range .ensures) ∙ not-false (c .before .in-range .result) (c .if1 .left)) (rw (b .head .given .1) at (b .before .before .read-head .ensures .1))
 
 pub head-line-spec : {M : Type 1} → statement M
 head-line-spec =

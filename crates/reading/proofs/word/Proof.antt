@@ -6,27 +6,26 @@ use native.Mathlib.Omega.{arith}
 use native.Mathlib.Nat.{add-zero}
 use lib.ListN.{length, drop}
 use Rattle.text.specs.Reading.{strip}
-use Rattle.reading.proofs.Places.{strip-end, strip-other, strip-same, strip-done}
+use Rattle.reading.proofs.Places.{strip-short, strip-other, strip-same, strip-done}
 use Rattle.reading.proofs.word.Statement.{statement}
 use Rattle.reading.proofs.word.Tie as tie
 
 abbrev Inv-loop : tie.InvT-loop
-Inv-loop s at w k₀ k = (k ≤ length w) × (at + k ≤ length s) × (strip w (drop at s) ≡ strip (drop k w) (drop (at + k) s))
+Inv-loop s at w k₀ k = (k ≤ length w) × (strip w (drop at s) ≡ strip (drop k w) (drop (at + k) s))
 
 abbrev μ-loop : tie.MeasureT-loop
 μ-loop s at w k₀ k = length w - k
-
-loop-holds : tie.Need-loop-holds Inv-loop μ-loop
-loop-holds c = (omega arith, omega arith, rw add-zero)
 
 sub-if1 : tie.Need-sub-if1 Inv-loop μ-loop
 sub-if1 c = search needs
 
 returns : tie.Need-returns Inv-loop μ-loop
 returns c =
-    let l = c .before .before in
-    let a = l .before .args in
-    l .loop .inv .2 ∙ strip-end (a .s .now) (a .w .now) (a .at) (l .loop .k) (omega arith) (omega arith)
+    let a = c .before .args in
+    strip-short (a .s .now) (a .w .now) (a .at) (c .if1 .taken)
+
+loop-holds : tie.Need-loop-holds Inv-loop μ-loop
+loop-holds c = (omega arith, rw add-zero)
 
 add-if2 : tie.Need-add-if2 Inv-loop μ-loop
 add-if2 c = search needs
@@ -39,9 +38,9 @@ shared-slice-read-if2-2 c = search needs
 
 returns-2 : tie.Need-returns-2 Inv-loop μ-loop
 returns-2 c =
-    let l = c .before .before .before .before .before in
-    let a = l .before .args in
-    l .loop .inv .2 ∙ strip-other (a .s .now) (a .w .now) (a .at) (l .loop .k) (omega arith) (omega arith) (c .if2 .taken)
+    let l = c .before .before .before .before in
+    let a = l .before .before .args in
+    l .loop .inv .1 ∙ strip-other (a .s .now) (a .w .now) (a .at) (l .loop .k) (omega arith) (omega arith) (c .if2 .taken)
 
 add-k : tie.Need-add-k Inv-loop μ-loop
 add-k c = search needs
@@ -51,18 +50,18 @@ loop-less c = search needs
 
 loop-again : tie.Need-loop-again Inv-loop μ-loop
 loop-again c =
-    let l = c .before .before .before .before .before in
-    let a = l .before .args in
-    (omega arith, omega arith, l .loop .inv .2 ∙ strip-same (a .s .now) (a .w .now) (a .at) (l .loop .k) (omega arith) (omega arith) (c .if2 .left))
+    let l = c .before .before .before .before in
+    let a = l .before .before .args in
+    (omega arith, l .loop .inv .1 ∙ strip-same (a .s .now) (a .w .now) (a .at) (l .loop .k) (omega arith) (omega arith) (c .if2 .left))
 
-add-t12 : tie.Need-add-t12 Inv-loop μ-loop
-add-t12 c = search needs
+add-t5 : tie.Need-add-t5 Inv-loop μ-loop
+add-t5 c = search needs
 
 returns-3 : tie.Need-returns-3 Inv-loop μ-loop
 returns-3 c =
     let l = c .before in
-    let a = l .before .args in
-    (l .loop .inv .2 ∙ strip-done (a .s .now) (a .w .now) (a .at) (l .loop .k) (omega arith), omega arith, omega arith)
+    let a = l .before .before .args in
+    (l .loop .inv .1 ∙ strip-done (a .s .now) (a .w .now) (a .at) (l .loop .k) (omega arith), omega arith, omega arith)
 
 pub word-spec : {M : Type 1} → statement M
 word-spec =
@@ -70,9 +69,9 @@ word-spec =
     (tie.spec
     Inv-loop
     μ-loop
-    loop-holds
     sub-if1
     returns
+    loop-holds
     add-if2
     shared-slice-read-if2
     shared-slice-read-if2-2
@@ -80,5 +79,5 @@ word-spec =
     add-k
     loop-less
     loop-again
-    add-t12
+    add-t5
     returns-3)

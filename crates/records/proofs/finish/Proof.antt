@@ -68,8 +68,8 @@ stayed = (gave-slice (0 ∷ []) tt (plain (λ _. G.the-row)), (stay-none (λ _. 
 abbrev Store : {M : Type 1} (𝓤 : URA M) (H : Heap 𝓤) (A : Atoms 𝓤) (mem : Memory → SProp 𝓤) (run : Routine → Fun 𝓤) → Contract 𝓤
 Store 𝓤 H A mem run = tripleOf 𝓤 H A store.signature (store.spec 𝓤 H A mem run)
 
--- 4162 codes have room
-codes-room : Room u16 4162
+-- 4096 codes have room
+codes-room : Room u16 4096
 codes-room = (lit< tt, lit< tt)
 
 module _ {M : Type 1} (𝓤 : URA M) (H : Heap 𝓤) (A : Atoms 𝓤) (W : Given 𝓤 H A) (mem : Memory → SProp 𝓤) (run : Routine → Fun 𝓤) (κ : Lft) (q : Share) (b o : ℕ) (γ : GName) (ys : List Gate) (d : Done) where
@@ -102,8 +102,8 @@ module _ {M : Type 1} (𝓤 : URA M) (H : Heap 𝓤) (A : Atoms 𝓤) (W : Given
   Post = walkOf 𝓤 H A finish.ended stayed (finish.clauses 𝓤 H A mem run) .post (((κ, tt), (q, tt), tt, a, at), tt)
 
   module _ (is : Is D.the-row d (dv ∷ [])) (fits : Fits d (length ys)) (room : Room G.the-row (length ys)) where
-    codes-are : Is (Array u16 4162) (d .codes) (cv ∷ [])
-    codes-are = subst (λ (l : List ℕ). Is (Array u16 4162) l (cv ∷ [])) (map-id (d .codes)) (LL.owed D.the-type D′.the-laws d (dv ∷ []) is .0)
+    codes-are : Is (Array u16 4096) (d .codes) (cv ∷ [])
+    codes-are = subst (λ (l : List ℕ). Is (Array u16 4096) l (cv ∷ [])) (map-id (d .codes)) (LL.owed D.the-type D′.the-laws d (dv ∷ []) is .0)
 
     outcome-is : Is O.the-row (d .outcome) (ov ∷ [])
     outcome-is = LL.owed D.the-type D′.the-laws d (dv ∷ []) is .1 .1 .1 .0
@@ -114,7 +114,7 @@ module _ {M : Type 1} (𝓤 : URA M) (H : Heap 𝓤) (A : Atoms 𝓤) (W : Given
     limit-fits : d .limit < 2 ^ 64
     limit-fits = LL.owed D.the-type D′.the-laws d (dv ∷ []) is .1 .1 .0 .1
 
-    codes-count : length (d .codes) ≡ 4162
+    codes-count : length (d .codes) ≡ 4096
     codes-count = codes-are .1 .0 .1
 
     writable : Writable (d .codes) (d .gates) (d .limit) (length ys)
@@ -126,10 +126,10 @@ module _ {M : Type 1} (𝓤 : URA M) (H : Heap 𝓤) (A : Atoms 𝓤) (W : Given
       c δ = record { ptr = (l₃, 0); name = δ; now = d .codes }
 
       abbrev cs : Val
-      cs = sliceVal (l₃, 0) 4162
+      cs = sliceVal (l₃, 0) 4096
 
       abbrev All : Fml
-      All = arr-parts (shares u16) 4162 .part fullShare (d .codes) l₃ 0
+      All = arr-parts (shares u16) 4096 .part fullShare (d .codes) l₃ 0
 
       -- what `store`'s triple binds outside, and that the caller has what it asks
       abbrev to : ℕ → GName → Store 𝓤 H A mem run .Ghost
@@ -154,7 +154,7 @@ module _ {M : Type 1} (𝓤 : URA M) (H : Heap 𝓤) (A : Atoms 𝓤) (W : Given
     module _ (C : Calls 𝓤 H) (Λ : Loops 𝓤 H) (fm : FmC 𝓤 H (W .laws) C) (known : Triple 𝓤 (C #store) (Store 𝓤 H A mem run)) where
       walk : ent 𝓤 (onEntry 𝓤 H A finish.signature (κ, tt) (q, tt) a at) (WpFn 𝓤 H C Λ code.function (s ∷ dv ∷ []) Post)
       walk =
-          let codes-typed = array-lawful 𝓤 H A W u16 (uint-lawful 𝓤 H A W w16) 4162 .typed (d .codes) (cv ∷ []) codes-are .0 in
+          let codes-typed = array-lawful 𝓤 H A W u16 (uint-lawful 𝓤 H A W w16) 4096 .typed (d .codes) (cv ∷ []) codes-are .0 in
           let outcome-typed = LL.lawful O.the-type O′.the-laws 𝓤 H A W .typed (d .outcome) (ov ∷ []) outcome-is .0 in
           qed W ((‵ (flft κ q) ⊛ ‵ ftrue) ∷ ‵ (owns (MutSlice (named 0) κ G.the-row ∷ D.the-row ∷ []) a at) ∷ []) ∵ enter ! C Λ code.function (s ∷ dv ∷ []) _ $
           alloc1 ! (λ l₀. alloc1 ! (λ l₁. alloc1 ! (λ l₂. alloc1 ! (λ l₃. alloc1 ! (λ l₄. alloc1 ! (λ l₅. alloc1 ! (λ l₆. alloc1 ! (λ l₇. alloc1 ! (λ l₈. alloc1 ! (λ l₉. alloc0 ! $ params1 ! $
@@ -168,9 +168,9 @@ module _ {M : Type 1} (𝓤 : URA M) (H : Heap 𝓤) (A : Atoms 𝓤) (W : Given
           assigns ! (agg ! (and-then ! (load ! (from ! (stop !)) (look ! 2 refl)) (and-then ! (big ! (record { fits = lit< tt })) (no-more !)))) (from ! (stop !)) (init ! 0 refl (tt, (tt, (record { fits = lit< tt }, tt)))) $
           move ! (21 ∷ []) $ fsplit ! $ move ! (22 ∷ []) $ split ! $
           -- the array is lent for a lifetime ν of the call
-          lft-new ! tt (λ ν. move ! (17 ∷ []) $ owned ! (Array u16 4162) (Is (Array u16 4162)) (array-makes 𝓤 H A W u16 (uint-makes 𝓤 H A W w16) 4162) (d .codes) (cv ∷ []) codes-are $ move ! (1 ∷ 0 ∷ []) $
-          use2 W (‵ (All l₃)) (elements 𝓤 H A W u16 4162 l₃ 0 tt (d .codes) cv) $
-          use1 W (later (some (λ (δ : GName). ‵ (ShrSlice (named 1) (ν ∷ []) u16 .own (c l₃ δ) (cs l₃ ∷ [])) ⊛ ‵ (flent (ν ∷ []) (All l₃))))) (lends-shared 𝓤 H A W u16 4162 l₃ 0 (named 1) (ν ∷ []) (d .codes) codes-count codes-room) $ await ! tt $ pick ! (λ δ. split ! $
+          lft-new ! tt (λ ν. move ! (17 ∷ []) $ owned ! (Array u16 4096) (Is (Array u16 4096)) (array-makes 𝓤 H A W u16 (uint-makes 𝓤 H A W w16) 4096) (d .codes) (cv ∷ []) codes-are $ move ! (1 ∷ 0 ∷ []) $
+          use2 W (‵ (All l₃)) (elements 𝓤 H A W u16 4096 l₃ 0 tt (d .codes) cv) $
+          use1 W (later (some (λ (δ : GName). ‵ (ShrSlice (named 1) (ν ∷ []) u16 .own (c l₃ δ) (cs l₃ ∷ [])) ⊛ ‵ (flent (ν ∷ []) (All l₃))))) (lends-shared 𝓤 H A W u16 4096 l₃ 0 (named 1) (ν ∷ []) (d .codes) codes-count codes-room) $ await ! tt $ pick ! (λ δ. split ! $
           -- [codes; the lender's part; ν's token; the list's token; true; list; what d owns; _9; …; with no _3]
           move ! (3 ∷ 2 ∷ 5 ∷ 0 ∷ []) $ join ! $ use3 W (raw (Store 𝓤 H A mem run .pre (to l₃ ν δ))) (asks l₃ ν δ) $
           calls-says ! fm store.ended (store.clauses 𝓤 H A mem run) known (to l₃ ν δ) (λ _ zs. zs .0 ≡ finished d ys) (λ _ zs. refl) (and-then ! (load ! (from ! (stop !)) (look ! 8 refl)) (and-then ! (load ! (from ! (stop !)) (look ! 4 refl)) (and-then ! (load ! (from ! (fld ! refl (stop !))) (look-in ! 17 (sub ! 1 refl (whole !)))) (and-then ! (load ! (from ! (fld ! refl (stop !))) (look-in ! 17 (sub ! 2 refl (whole !)))) (no-more !))))) (λ w r zs e.
@@ -179,7 +179,7 @@ module _ {M : Type 1} (𝓤 : URA M) (H : Heap 𝓤) (A : Atoms 𝓤) (W : Given
           move ! (2 ∷ 3 ∷ []) $ peeks ! unit (Is unit) (shows 𝓤 H A unit) r (w ∷ []) (λ w-is.
           land ! (from ! (stop !)) (init ! 15 refl (nothing-lawful 𝓤 H A W .typed r _ w-is .0)) $
           move ! (1 ∷ []) $ use1 W (‵ (flft κ q) ⊛ (‵ (flft (ν ∷ []) fullShare) ⊛ ‵ ftrue)) (id⊢ 𝓤 _) $ split ! $ move ! (1 ∷ []) $ split ! $ lft-end ! tt $ move ! (0 ∷ 6 ∷ []) $ lent-back ! tt $
-          use1 W (‵ (froom (tyArray (tyInt w16) 4162) l₃ 0)) (room-of 𝓤 H A W u16 4162 l₃ 0 (d .codes)) $
+          use1 W (‵ (froom (tyArray (tyInt w16) 4096) l₃ 0)) (room-of 𝓤 H A W u16 4096 l₃ 0 (d .codes)) $
           -- [room for _3; true; the list's token; the result; the last list; …; true; what d owns; _9; …]
           assigns ! (of-opd ! (load ! (from ! (stop !)) (look ! 18 refl))) (from ! (stop !)) (init ! 25 refl outcome-typed) $
           returns ! (look ! 25 refl) $ forget ! 8 refl $ forget ! 10 refl $ forget ! 12 refl $ forget ! 14 refl $ forget ! 16 refl $ forget ! 18 refl $ forget ! 21 refl $ forget ! 23 refl $ forget ! 25 refl $

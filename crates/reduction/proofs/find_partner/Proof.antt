@@ -5,37 +5,26 @@ use Prim.Native.Nat.{_-_, _≤_}
 use native.Mathlib.Omega.{arith}
 use lib.ListN.{take}
 use borrow.Author.Tests.{not-true, not-false}
-use Rattle.reduction.specs.Bounds.{bounds-of}
 use Rattle.reduction.proofs.Numbers.{passing-passes, passing-blocks}
 use Rattle.reduction.proofs.Search.{Tried, search-start, search-found, search-more, search-blocked, search-all}
 use Rattle.reduction.proofs.find_partner.Statement.{statement}
 use Rattle.reduction.proofs.find_partner.Tie as tie
 
 abbrev Inv-loop : tie.InvT-loop
-Inv-loop list n g b₀ b = (b ≤ n) × Tried (take n list) g b
+Inv-loop list last n g b₀ b = (b ≤ n) × Tried (take n list) g b
 
 abbrev μ-loop : tie.MeasureT-loop
-μ-loop list n g b₀ b = b
-
-sub-start-of-search : tie.Need-sub-start-of-search Inv-loop μ-loop
-sub-start-of-search c = search needs
-
-part-start-of-search-start : tie.Need-part-start-of-search-start Inv-loop μ-loop
-part-start-of-search-start c = search needs
-
-part-start-of-search-end : tie.Need-part-start-of-search-end Inv-loop μ-loop
-part-start-of-search-end c = search needs
+μ-loop list last n g b₀ b = b
 
 start-of-search-requires : tie.Need-start-of-search-requires Inv-loop μ-loop
-unfolding bounds-of
-start-of-search-requires c κs = let s = c .before .before in (s .pre .1 .1 .size, s .pre .1 .0)
+start-of-search-requires c κs = search needs
 
 loop-holds : tie.Need-loop-holds Inv-loop μ-loop
-unfolding bounds-of
 loop-holds c =
-    let s = c .before .before .before in
+    let s = c .before .before in
+    let a = s .args in
     let r = c .start-of-search in
-    (r .ensures .inside, search-start (s .args .list .now) (s .args .n) (s .args .g) (omega arith) (bounds-of (s .args .list .now)) (r .result) (s .pre .1 .1) (r .ensures))
+    (omega arith, search-start (a .list .now) (a .n) (a .g) (s .pre .0) (a .last .now) (r .result) (s .pre .1 .1) (omega arith) (omega arith))
 
 sub-p : tie.Need-sub-p Inv-loop μ-loop
 sub-p c = search needs
@@ -49,7 +38,7 @@ shared-slice-read-a c = search needs
 returns : tie.Need-returns Inv-loop μ-loop
 returns c =
     let l = c .before .before .before in
-    let s = l .before .before .before .before in
+    let s = l .before .before .before in
     search-found (s .args .list .now) (s .args .n) (s .args .g) (omega arith) (l .loop .b) (l .loop .b - 1) (omega arith) (l .loop .inv .0) (l .loop .inv .1) (c .if1 .taken)
 
 passes-requires : tie.Need-passes-requires Inv-loop μ-loop
@@ -58,7 +47,7 @@ passes-requires c κs = search needs
 returns-2 : tie.Need-returns-2 Inv-loop μ-loop
 returns-2 c =
     let l = c .before .before .before .before .before in
-    let s = l .before .before .before .before in
+    let s = l .before .before .before in
     search-blocked (s .args .list .now) (s .args .n) (s .args .g) (omega arith) (l .loop .b) (l .loop .b - 1) (omega arith) (l .loop .inv .0) (l .loop .inv .1) (c .before .before .if1 .left)
     (passing-blocks (s .args .g) _ (sym (c .before .passes .ensures) ∙ not-true _ (c .if2 .taken)))
 
@@ -68,7 +57,7 @@ loop-less c = search needs
 loop-again : tie.Need-loop-again Inv-loop μ-loop
 loop-again c =
     let l = c .before .before .before .before .before in
-    let s = l .before .before .before .before in (
+    let s = l .before .before .before in (
       omega arith,
       search-more (s .args .list .now) (s .args .n) (s .args .g) (omega arith) (l .loop .b) (l .loop .b - 1) (omega arith) (l .loop .inv .0) (l .loop .inv .1) (c .before .before .if1 .left)
           (passing-passes (s .args .g) _ (sym (c .before .passes .ensures) ∙ not-false _ (c .if2 .left))),
@@ -77,7 +66,7 @@ loop-again c =
 returns-3 : tie.Need-returns-3 Inv-loop μ-loop
 returns-3 c =
     let l = c .before in
-    let s = l .before .before .before .before in
+    let s = l .before .before .before in
     search-all (s .args .list .now) (s .args .n) (s .args .g) (omega arith) (l .loop .b) (omega arith) (l .loop .inv .1)
 
 pub find-partner-spec : {M : Type 1} → statement M
@@ -86,9 +75,6 @@ find-partner-spec =
     (tie.spec
     Inv-loop
     μ-loop
-    sub-start-of-search
-    part-start-of-search-start
-    part-start-of-search-end
     start-of-search-requires
     loop-holds
     sub-p

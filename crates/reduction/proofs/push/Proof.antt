@@ -8,42 +8,51 @@ use Rattle.reduction.proofs.push.Statement.{statement}
 use Rattle.reduction.proofs.push.Tie as tie
 
 find-partner-requires : tie.Need-find-partner-requires
-find-partner-requires c κs = let p = c .before .before .pre in ((omega (arith, p .few), p .room), (p .code, p .bounded))
+find-partner-requires c κs = search needs
 
 enum-known-found : tie.Need-enum-known-found
 enum-known-found c = search needs
 
 merge-requires : tie.Need-merge-requires
 merge-requires c κs =
-    let f = c .before .before .before .before in
-    let s = f .before .before .before in
+    let f = c .before .before .before .before .before in
+    let s = f .before .before .before .before in
     let a = s .args in
-    let m = partner-met (take (a .n) (a .list .now)) (a .g) (f .find-partner .result) _ (c .before .before .found .given .1) (f .find-partner .ensures) in
-    let h = s .pre .room in
-    (s .pre, (m, omega (arith, m .inside, s .pre .few, length-take-le (a .n) (a .list .now) (omega (arith, s .pre .few)))))
+    let m = partner-met (take (a .n) (a .list .now)) (a .g) (f .find-partner .result) _ (c .before .before .before .found .given .1) (f .find-partner .ensures) in
+    (s .pre, (m, omega (arith, m .inside, length-take-le (a .n) (a .list .now) (omega (arith, s .pre .room)))))
 
 enum-known-found-2 : tie.Need-enum-known-found-2
 enum-known-found-2 c = search needs
 
 enter-requires : tie.Need-enter-requires
 enter-requires c κs =
-    let f = c .before .before .before .before in
-    let s = f .before .before .before in
+    let f = c .before .before .before .before .before in
+    let s = f .before .before .before .before in
     let a = s .args in
-    (s .pre, partner-none (take (a .n) (a .list .now)) (a .g) (f .find-partner .result) _ (c .before .before .found2 .given .1) (f .find-partner .ensures))
+    (s .pre, partner-none (take (a .n) (a .list .now)) (a .g) (f .find-partner .result) _ (c .before .before .before .found2 .given .1) (f .find-partner .ensures))
 
 same-length : tie.Need-same-length
 same-length c = search needs
 
 returns : tie.Need-returns
-returns c = c .before .before .merge .ensures
+returns c = search needs
 
 same-length-2 : tie.Need-same-length-2
 same-length-2 c = search needs
 
 returns-2 : tie.Need-returns-2
-returns-2 c = c .before .before .enter .ensures
+returns-2 c = search needs
 
 pub push-spec : {M : Type 1} → statement M
 push-spec =
-    tie.close (tie.spec find-partner-requires enum-known-found merge-requires enum-known-found-2 enter-requires same-length returns same-length-2 returns-2)
+    tie.close
+    (tie.spec
+    find-partner-requires
+    enum-known-found
+    merge-requires
+    enum-known-found-2
+    enter-requires
+    same-length
+    returns
+    same-length-2
+    returns-2)

@@ -1,76 +1,77 @@
--- `reduce` pushes onto no gates, which gives the reduced list. Assumes nothing.
+-- `reduce` has pushed the first i gates when i is next; the places of those that are gone are cleared at the end. Assumes nothing.
 use borrow.Author.Needs.{needs}
-use Prim.Native.Nat.{_≤_}
+use mathlib.Core.Path.{_≡_, refl}
+use Prim.Native.Nat.{_-_, _≤_}
 use native.Mathlib.Omega.{arith}
-use lib.ListN.{length}
-use Rattle.gates.proofs.Normal.{normal-nil}
-use Rattle.reduction.specs.Bounds.{bounds-of}
-use Rattle.reduction.proofs.Places.{with-bounds, bounds-size}
-use Rattle.reduction.proofs.Bounding.{bounded-none}
-use Rattle.reduction.proofs.Turns.{cleared-codes, turns-reduce}
+use lib.ListN.{replicate}
+use Rattle.reduction.proofs.Turns.{Turned, turned-start, turned-pushable, turned-more, turned-reduced}
 use Rattle.reduction.proofs.reduce.Statement.{statement}
 use Rattle.reduction.proofs.reduce.Tie as tie
 
-sub-clear-bounds : tie.Need-sub-clear-bounds
-sub-clear-bounds c = search needs
+abbrev Inv-loop : tie.InvT-loop
+Inv-loop list₀ m last₀ r₀ i₀ list last r i = (i ≤ m) × Turned list₀ i r list last
 
-part-clear-bounds-start : tie.Need-part-clear-bounds-start
-part-clear-bounds-start c = search needs
+abbrev μ-loop : tie.MeasureT-loop
+μ-loop list₀ m last₀ r₀ i₀ list last r i = m - i
 
-part-clear-bounds-end : tie.Need-part-clear-bounds-end
-part-clear-bounds-end c = search needs
+loop-holds : tie.Need-loop-holds Inv-loop μ-loop
+loop-holds c = let a = c .before .args in (omega arith, turned-start (a .list .now) (replicate 66 0) refl)
 
-clear-bounds-requires : tie.Need-clear-bounds-requires
-unfolding bounds-of
-clear-bounds-requires c κs = let s = c .before .before in bounds-size (s .args .list .now) (s .pre .0 .1)
+mul-g : tie.Need-mul-g Inv-loop μ-loop
+mul-g c = search needs
 
-push-all-requires : tie.Need-push-all-requires
-push-all-requires c κs =
-    let b = c .before .before .before .clear-bounds in
-    let s = c .before .before .before .before .before .before in
-    let room : 4162 ≤ length (with-bounds (s .args .list .now) (b .last .0)) = omega (arith, c .before .before .list .given, s .pre .0 .1) in
-    ((omega arith, s .pre .0 .0, room), (cleared-codes (s .args .list .now) (s .args .m) (s .pre .0 .0) (s .pre .0 .1) (b .last .0) (b .ensures) (s .pre .1), (normal-nil, bounded-none _ room)))
+slice-read-g : tie.Need-slice-read-g Inv-loop μ-loop
+slice-read-g c = search needs
 
-sub-clear-bounds-2 : tie.Need-sub-clear-bounds-2
-sub-clear-bounds-2 c = search needs
+push-requires : tie.Need-push-requires Inv-loop μ-loop
+push-requires c κs =
+    let l = c .before .before .before .before in
+    let s = l .before .before in
+    let a = s .args in
+    turned-pushable (a .list .now) (a .m) (s .pre .0 .0) (s .pre .0 .1) (s .pre .1) (l .loop .list) (l .loop .last) (l .loop .i) (l .loop .r) (omega arith) (l .loop .inv .1)
 
-part-clear-bounds-start-2 : tie.Need-part-clear-bounds-start-2
-part-clear-bounds-start-2 c = search needs
+add-i : tie.Need-add-i Inv-loop μ-loop
+add-i c = search needs
 
-part-clear-bounds-end-2 : tie.Need-part-clear-bounds-end-2
-part-clear-bounds-end-2 c =
-    omega (arith, c .before .list2 .given, c .before .before .before .before .before .list .given, c .before .before .before .before .before .before .before .before .before .pre .0 .1)
+loop-less : tie.Need-loop-less Inv-loop μ-loop
+loop-less c = search needs
 
-clear-bounds-requires-2 : tie.Need-clear-bounds-requires-2
-unfolding bounds-of
-clear-bounds-requires-2 c κs =
-    let p = c .before .before .before in
-    bounds-size (p .push-all .last .0) (omega (arith, c .before .before .list2 .given, p .before .before .before .list .given, p .before .before .before .before .before .before .before .pre .0 .1))
+loop-again : tie.Need-loop-again Inv-loop μ-loop
+loop-again c =
+    let p = c .before .before .push in
+    let l = c .before .before .before .before .before .before .before in
+    let s = l .before .before in
+    let a = s .args in
+    (omega arith, turned-more (a .list .now) (a .m) (s .pre .0 .0) (s .pre .0 .1) (s .pre .1) (l .loop .list) (l .loop .last) (l .loop .i) (l .loop .r) (omega arith) (l .loop .inv .1) (p .last .0) (p .last .1 .0) (p .result) (c .before .list .given) (p .ensures))
 
-same-length : tie.Need-same-length
+clear-requires : tie.Need-clear-requires Inv-loop μ-loop
+clear-requires c κs = let l = c .before .before in (omega (arith, l .loop .inv .1 .within), omega (arith, l .loop .inv .1 .size, l .before .before .pre .0 .1))
+
+same-length : tie.Need-same-length Inv-loop μ-loop
 same-length c = search needs
 
-returns : tie.Need-returns
+returns : tie.Need-returns Inv-loop μ-loop
 returns c =
-    let d = c .before .before .clear-bounds2 in
-    let p = c .before .before .before .before .before .before in
-    let b = p .before .before .before .before in
-    let s = b .before .before .before in
-    let room : 4162 ≤ length (p .push-all .last .0) = omega (arith, c .before .before .before .before .before .list2 .given, p .before .before .before .list .given, s .pre .0 .1) in
-    turns-reduce (s .args .list .now) (s .args .m) (s .pre .0 .0) (s .pre .0 .1) (b .clear-bounds .last .0) (b .clear-bounds .ensures) (p .push-all .result) (p .push-all .last .0) room (d .last .0) (d .ensures) (p .push-all .ensures)
+    let d = c .before .before in
+    let l = d .before .before .before in
+    let s = l .before .before in
+    let a = s .args in
+    let e : l .loop .i ≡ a .m = omega arith in
+    turned-reduced (a .list .now) (a .m) (s .pre .0 .0) (s .pre .0 .1) (s .pre .1) (l .loop .r) (l .loop .list) (l .loop .last) (d .clear .last .0) (rw e at (l .loop .inv .1)) (d .clear .ensures)
 
 pub reduce-spec : {M : Type 1} → statement M
 reduce-spec =
     tie.close
     (tie.spec
-    sub-clear-bounds
-    part-clear-bounds-start
-    part-clear-bounds-end
-    clear-bounds-requires
-    push-all-requires
-    sub-clear-bounds-2
-    part-clear-bounds-start-2
-    part-clear-bounds-end-2
-    clear-bounds-requires-2
+    Inv-loop
+    μ-loop
+    loop-holds
+    mul-g
+    slice-read-g
+    push-requires
+    add-i
+    loop-less
+    loop-again
+    clear-requires
     same-length
     returns)

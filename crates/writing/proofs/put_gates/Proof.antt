@@ -8,14 +8,14 @@ use lib.ListN.{length, take}
 use borrow.Author.Needs.{needs}
 use Rattle.gates.proofs.Codes.{below}
 use Rattle.gates.proofs.CodeLists.{code-in-front}
-use Rattle.writing.specs.Written.{Writes, gate-lines}
+use Rattle.writing.specs.Written.{Puts, gate-lines}
 use Rattle.writing.proofs.Bytes.{nothing, both}
 use Rattle.writing.proofs.Lines.{code-proper, no-lines, more-lines, lines-grow, lines-length}
 use Rattle.writing.proofs.put_gates.Statement.{statement}
 use Rattle.writing.proofs.put_gates.Tie as tie
 
 abbrev Inv-loop : tie.InvT-loop
-Inv-loop out₀ at list m next₀ done₀ out next done = (done ≤ m) × Writes out₀ out at next (gate-lines (take done list)) × (length out ≡ length out₀)
+Inv-loop out₀ at list m next₀ done₀ out next done = (done ≤ m) × Puts out₀ out at next (gate-lines (take done list)) × (length out ≡ length out₀)
 
 abbrev μ-loop : tie.MeasureT-loop
 μ-loop out₀ at list m next₀ done₀ out next done = m - done

@@ -1,0 +1,76 @@
+-- What a program writes: for every text exactly one thing, and its last byte is 10. Assumes nothing.
+use mathlib.Core.Path.{_≡_, refl, sym, ap, _∙_}
+use mathlib.Core.List.{List, [], _∷_, _++_, map, append-nil, append-assoc}
+use Prim.Native.Nat.{ℕ}
+use lib.ListN.{length, drop}
+use Rattle.gates.specs.declared.Gate.{Gate}
+use Rattle.gates.specs.declared.Gate.the-variants.{Not, Powered}
+use Rattle.gates.proofs.ReducedLists.{one-reduced-list}
+use Rattle.text.specs.Text.{Form, lines, gate, bytes, digits, one, two, word, render, rendered, circuit-text}
+use Rattle.text.specs.Judging.{Judged, turned-away, accepted}
+use Rattle.writing.specs.Decimal.{decimal, one-number, two-numbers}
+use Rattle.jobs.specs.Jobs.{Job, takes, Output, as-text, as-count, output, judged-text}
+use Rattle.jobs.proofs.One.{text-passed, passed-valid}
+use Rattle.console.specs.declared.Job as console
+use Rattle.console.specs.Output.{shown, PrintsBy, Prints, job-of, Answers}
+
+-- ---- exactly one
+
+only : (j : Job) (s : List ℕ) (d : Judged) → judged-text (takes j) s 4096 ≡ d → (w : List ℕ) × PrintsBy (output j) d w × ((v : List ℕ) → PrintsBy (output j) d v → v ≡ w)
+unfolding PrintsBy
+only j s (turned-away r l) q = (_, refl, λ v e. e)
+only j s (accepted h c) q =
+    let y = one-reduced-list (h .lines) c (passed-valid (text-passed (takes j) s 4096 q)) in
+    (shown (output j) (h .lines) (y .0), (y .0, y .1, refl), λ v z. z .2 ∙ ap (shown (output j) (h .lines)) (sym (y .2 (z .0) (z .1))))
+
+pub prints-one : (j : Job) (s : List ℕ) → (w : List ℕ) × Prints j s w × ((v : List ℕ) → Prints j s v → v ≡ w)
+unfolding Prints
+prints-one j s = only j s (judged-text (takes j) s 4096) refl
+
+-- so the contract of `answer` leaves nothing free
+pub answers-one : (i : console.Job) (s a : List ℕ) (n m : ℕ) (b d : List ℕ) → Answers i s a n b → Answers i s a m d → (n ≡ m) × (b ≡ d)
+answers-one i s a n m b d x y =
+    let p = prints-one (job-of i) s in
+    let e = p .2 (x .written) (x .prints) ∙ sym (p .2 (y .written) (y .prints)) in
+    let k = x .fronts .number ∙ ap length e ∙ sym (y .fronts .number) in
+    let f : x .written ++ drop n a ≡ y .written ++ drop m a = rw (e, k) in
+    (k, x .fronts .bytes ∙ f ∙ sym (y .fronts .bytes))
+
+-- ---- ended by byte 10
+
+abbrev pub Ended : List ℕ → Type 0
+Ended w = (u : List ℕ) × (w ≡ u ++ 10 ∷ [])
+
+behind : (u : List ℕ) {w : List ℕ} → Ended w → Ended (u ++ w)
+behind u (v, e) = (u ++ v, ap (λ (t : List ℕ). u ++ t) e ∙ sym (append-assoc u v (10 ∷ [])))
+
+bracket : Ended (bytes ")\n")
+bracket = (41 ∷ [], refl)
+
+one-ended : (t : ℕ) → Ended (one t)
+unfolding one
+one-ended t = behind (digits t) bracket
+
+gate-ended : (g : Gate) → Ended (render (gate g))
+unfolding render two
+gate-ended (Not t) = behind (bytes "(not ") (one-ended t)
+gate-ended (Powered p c t) = behind (word p) (behind (digits c) (behind (bytes " ") (one-ended t)))
+
+forms-ended : (f : Form) (c : List Gate) → Ended (render f) → Ended (rendered (f ∷ map gate c))
+unfolding rendered
+forms-ended f [] e = rw (append-nil (render f)) e
+forms-ended f (g ∷ c) e = behind (render f) (forms-ended (gate g) c (gate-ended g))
+
+shown-ended : (k : Output) (n : ℕ) (r : List Gate) → Ended (shown k n r)
+unfolding circuit-text render one-number
+shown-ended as-text n r = forms-ended (lines n) r (behind (bytes "(lines ") (one-ended n))
+shown-ended as-count n r = behind (bytes "(quote ") (behind (decimal _) bracket)
+
+shows-ended : (k : Output) (d : Judged) (w : List ℕ) → PrintsBy k d w → Ended w
+unfolding PrintsBy two-numbers
+shows-ended k (turned-away r l) w e = rw e (behind (bytes "(turned-away ") (behind (decimal _ ++ bytes " ") (behind (decimal l) bracket)))
+shows-ended k (accepted h c) w (r, x, e) = rw e (shown-ended k (h .lines) r)
+
+pub prints-ended : (j : Job) (s w : List ℕ) → Prints j s w → Ended w
+unfolding Prints
+prints-ended j s w p = shows-ended (output j) (judged-text (takes j) s 4096) w p

@@ -1,0 +1,216 @@
+"""Maps a cascade of multiple-control Toffoli gates to a list of NCV gates,
+reduces such a list, and quotes its gate count.
+
+    >>> import yilgorza
+    >>> yilgorza.quote("(lines 3)\\n(mct (0 1) 2)\\n").count
+    5
+
+A text is a str or any bytes-like object. A str stands for its UTF-8 bytes, a lone
+surrogate for its three; no character outside ASCII is in form, so a line that has
+one is turned away as malformed. A file is best read as bytes: opened as a text
+its line ends are changed, and bytes of it may be.
+
+The jobs are called by the module's name, yilgorza.map, yilgorza.reduce and
+yilgorza.quote: `from yilgorza import *` brings the types alone, so that it hides
+neither the built-in map nor functools.reduce.
+
+Calls may run at the same time in any number of threads: each lends areas of its
+own, and the interpreter runs other threads meanwhile. The shared object is loaded
+at the first call, from the package or from where the environment variable
+YILGORZA_SO says; OSError if that fails.
+"""
+
+from __future__ import annotations
+
+from dataclasses import dataclass
+from enum import Enum, IntEnum
+from functools import lru_cache
+from pathlib import Path
+from typing import Iterable, Optional, Tuple, Union
+
+from . import _library
+
+__all__ = [
+    "Circuit",
+    "Gate",
+    "InternalError",
+    "Kind",
+    "Number",
+    "Quote",
+    "TurnedAway",
+]
+
+__version__: str = Path(__file__).with_name("VERSION").read_text("ascii").strip()
+
+# Any object that lends its bytes is taken; these are the ones that types can name.
+Text = Union[str, bytes, bytearray, memoryview]
+
+
+class Number(IntEnum):
+    """The ten numbers of a refusal."""
+
+    OVERLONG = 1
+    SHORT_LIST = 2
+    MALFORMED = 3
+    NO_SUCH_LINE = 4
+    CROSSED = 5
+    UNSORTED = 6
+    TOO_WIDE = 7
+    NO_SPARE = 8
+    TOO_MANY = 9
+    SHORT_ANSWER = 10
+
+    @property
+    def words(self) -> str:
+        """What the number says, in a customer's words."""
+        return _WORDS[self]
+
+    def __str__(self) -> str:
+        # Versions before 3.11 would give the name.
+        return str(self.value)
+
+
+_WORDS = {
+    Number.OVERLONG: "the text is longer than 60,000 bytes",
+    Number.SHORT_LIST: "the service lent a gate list of fewer than 4,096 records",
+    Number.MALFORMED: "this line of the text is not written in the form asked for",
+    Number.NO_SUCH_LINE: "this line of the text names a line that the circuit does "
+    "not have (or line 1 of the text asks for none, or for more than 32)",
+    Number.CROSSED: "a gate is controlled by its own target",
+    Number.UNSORTED: "the controls are not in rising order",
+    Number.TOO_WIDE: "a gate has more than 15 controls",
+    Number.NO_SPARE: "a gate with three or more controls uses every line of the "
+    "circuit: add a line to the circuit",
+    Number.TOO_MANY: "too many gates: the 257th of a cascade, an expansion past "
+    "4,096, or the 4,097th of a circuit",
+    Number.SHORT_ANSWER: "the service lent an answer area that is too short",
+}
+
+
+class TurnedAway(Exception):
+    """A text is refused, with the number and the line, counted from 1; line 0
+    where no line is meant.
+
+    It can be pickled. As with other exceptions no two are equal: compare number
+    and line.
+    """
+
+    def __init__(self, number: int, line: int) -> None:
+        self.number = Number(number)
+        self.line = line
+        super().__init__(self.number, line)
+
+    @property
+    def words(self) -> str:
+        """The refusal in a customer's words."""
+        return self.number.words
+
+    @property
+    def form(self) -> str:
+        """The form that the programs write."""
+        return f"(turned-away {self.number} {self.line})"
+
+    def __str__(self) -> str:
+        place = f" at line {self.line} of the text" if self.line else ""
+        return f"refusal {self.number}{place}: {self.words}"
+
+
+class InternalError(RuntimeError):
+    """The shared object answered what its contract rules out: it is not the one
+    that this module is for."""
+
+
+class Kind(Enum):
+    """The kinds of gates, as yilgorza_gate numbers them."""
+
+    V = 1
+    CN = 2
+    VP = 3
+    NOT = 4
+
+
+@dataclass(frozen=True)
+class Gate:
+    """A gate of a circuit; a NOT has no control."""
+
+    kind: Kind
+    control: Optional[int]
+    target: int
+
+
+@dataclass(frozen=True)
+class Circuit:
+    """The reduced list of a text, and its circuit text."""
+
+    text: bytes
+    gates: Tuple[Gate, ...]
+
+
+@dataclass(frozen=True)
+class Quote:
+    """The gate count of a cascade, and the gates that are counted."""
+
+    count: int
+    gates: Tuple[Gate, ...]
+
+
+def map(text: Text) -> Circuit:
+    """Maps a cascade text to a circuit; TurnedAway if it is refused."""
+    return _written("map", text)
+
+
+def reduce(text: Text) -> Circuit:
+    """Reduces a circuit text; TurnedAway if it is refused."""
+    return _written("reduce", text)
+
+
+def quote(text: Text) -> Quote:
+    """Quotes the gate count of a cascade text; TurnedAway if it is refused."""
+    records = _library.GateList()
+    count = _counted(*_library.run("quote", _bytes(text), records))
+    return Quote(count, _gates(records[:count]))
+
+
+def _written(job: str, text: Text) -> Circuit:
+    records = _library.GateList()
+    answer = _library.AnswerArea()
+    count = _counted(*_library.run(job, _bytes(text), records, answer))
+    written = memoryview(answer)[:count].tobytes()
+    # Line 1 is no gate, and each later line is one.
+    return Circuit(written, _gates(records[: written.count(b"\n") - 1]))
+
+
+def _bytes(text: Text) -> bytes:
+    # Only of bytes itself, and of no class made from it, is the length certain.
+    if type(text) is bytes:
+        return text
+    if isinstance(text, str):
+        return str.encode(text, "utf-8", "surrogatepass")
+    try:
+        return memoryview(text).tobytes()
+    except TypeError:
+        raise TypeError(
+            f"a text is a str or a bytes-like object, not {type(text).__name__}"
+        ) from None
+
+
+def _counted(number: int, line: int, count: int) -> int:
+    if number == 0:
+        return count
+    if number not in _WORDS:
+        raise InternalError(f"yilgorza: there is no refusal {number}")
+    raise TurnedAway(number, line)
+
+
+def _gates(records: Iterable[int]) -> Tuple[Gate, ...]:
+    return tuple(_gate(record) for record in records)
+
+
+@lru_cache(maxsize=None)
+def _gate(record: int) -> Gate:
+    number, control, target = _library.gate(record)
+    try:
+        kind = Kind(number)
+    except ValueError:
+        raise InternalError(f"yilgorza: record {record} is no gate") from None
+    return Gate(kind, None if kind is Kind.NOT else control, target)

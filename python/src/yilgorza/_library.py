@@ -1,0 +1,68 @@
+"""The C functions of include/yilgorza.h, in a shared object that is loaded at the
+first call: the one of this package, or the one that YILGORZA_SO names."""
+
+from __future__ import annotations
+
+import ctypes
+import os
+from functools import lru_cache
+from pathlib import Path
+from typing import Any, Callable, Dict, List, Tuple
+
+_PACKAGED = str(Path(__file__).absolute().with_name("libyilgorza.so"))
+
+LIST_RECORDS = 4096
+ANSWER_BYTES = 45067
+
+GateList = ctypes.c_uint16 * LIST_RECORDS
+AnswerArea = ctypes.c_uint8 * ANSWER_BYTES
+_Outcome = ctypes.c_uint64 * 3
+_GateParts = ctypes.c_uint8 * 3
+
+_TEXT: List[Any] = [ctypes.c_char_p, ctypes.c_size_t]
+_LIST: List[Any] = [ctypes.POINTER(ctypes.c_uint16), ctypes.c_size_t]
+_ANSWER: List[Any] = [ctypes.POINTER(ctypes.c_uint8), ctypes.c_size_t]
+_OUTCOME: List[Any] = [ctypes.POINTER(ctypes.c_uint64)]
+
+# The parameters of each function. None has a result.
+_FUNCTIONS: Dict[str, List[Any]] = {
+    "map": _TEXT + _LIST + _ANSWER + _OUTCOME,
+    "reduce": _TEXT + _LIST + _ANSWER + _OUTCOME,
+    "quote": _TEXT + _LIST + _OUTCOME,
+    "gate": [ctypes.c_uint16, ctypes.POINTER(ctypes.c_uint8)],
+}
+
+
+def run(job: str, text: bytes, *areas: ctypes.Array[Any]) -> Tuple[int, int, int]:
+    """Runs a job on a text, with the areas lent to it: number, line and count."""
+    lent = [part for area in areas for part in (area, len(area))]
+    outcome = _Outcome()
+    _functions()[job](text, len(text), *lent, outcome)
+    number, line, count = outcome
+    return number, line, count
+
+
+def gate(record: int) -> Tuple[int, int, int]:
+    """Reads a record of a gate list: kind, control and target."""
+    parts = _GateParts()
+    _functions()["gate"](record, parts)
+    kind, control, target = parts
+    return kind, control, target
+
+
+@lru_cache(maxsize=None)
+def _functions() -> Dict[str, Callable[..., None]]:
+    path = os.environ.get("YILGORZA_SO") or _PACKAGED
+    try:
+        library = ctypes.CDLL(path)
+        functions = {name: getattr(library, f"yilgorza_{name}") for name in _FUNCTIONS}
+    except (OSError, AttributeError) as error:
+        raise OSError(
+            f"yilgorza: the shared object {path} cannot be used: {error}. `pip "
+            "install` puts one into the package; the environment variable YILGORZA_SO, "
+            "where it is set, names another."
+        ) from error
+    for name, function in functions.items():
+        function.argtypes = _FUNCTIONS[name]
+        function.restype = None
+    return functions

@@ -1,0 +1,124 @@
+"""The kinds of objects that are taken as texts, and those that are not."""
+
+import array
+import unittest
+
+import yilgorza
+from texts import TOFFOLI, TOFFOLI_MAPPED, typed
+from yilgorza import Number, TurnedAway
+
+JOBS = (yilgorza.map, yilgorza.reduce, yilgorza.quote)
+
+
+class Longer(bytes):
+    """Bytes that say they are more than they are."""
+
+    def __len__(self) -> int:
+        return 60000
+
+
+class Renamed(str):
+    """A str with an encoding of its own."""
+
+    def encode(self, *_: str) -> bytes:
+        return b""
+
+
+class Taken(unittest.TestCase):
+    def mapped(self, text: object) -> None:
+        self.assertEqual(yilgorza.map(text).text, TOFFOLI_MAPPED)
+        self.assertEqual(yilgorza.quote(text).count, 5)
+        with self.assertRaises(TurnedAway) as caught:
+            yilgorza.reduce(text)
+        self.assertEqual(caught.exception.form, "(turned-away 3 2)")
+
+    def test_bytes_and_str(self):
+        for text in (TOFFOLI, TOFFOLI.decode(), bytearray(TOFFOLI)):
+            with self.subTest(type(text).__name__):
+                self.mapped(text)
+        circuit = typed("(lines 2)", "(v 0 1)", "(v 0 1)")
+        for text in (circuit, circuit.decode(), bytearray(circuit)):
+            with self.subTest(type(text).__name__):
+                self.assertEqual(
+                    yilgorza.reduce(text).text, typed("(lines 2)", "(cn 0 1)")
+                )
+
+    def test_a_given_text_is_left_as_it_is(self):
+        text = bytearray(TOFFOLI)
+        self.mapped(text)
+        self.assertEqual(text, TOFFOLI)
+
+    def test_views(self):
+        twice = bytes(byte for byte in TOFFOLI for _ in range(2))
+        for name, view in (
+            ("whole", memoryview(TOFFOLI)),
+            ("a part", memoryview(b"?" + TOFFOLI + b"?")[1:-1]),
+            ("every second byte", memoryview(twice)[::2]),
+            ("backwards", memoryview(TOFFOLI[::-1])[::-1]),
+            ("pairs", memoryview(TOFFOLI).cast("H")),
+        ):
+            with self.subTest(name):
+                self.mapped(view)
+
+    def test_other_bytes_like_objects(self):
+        self.mapped(array.array("B", TOFFOLI))
+
+    def test_classes_made_from_bytes_and_str(self):
+        self.mapped(Longer(TOFFOLI))
+        self.mapped(Renamed(TOFFOLI.decode()))
+
+    def test_text_outside_ascii(self):
+        for character in "\u0660\uff10\u00e9\U0001d7ce\ud800\udcb0":
+            with self.subTest(ascii(character)):
+                for text, line in (
+                    (f"(lines 3)\n(mct ({character} 1) 2)\n", 2),
+                    (f"(lines {character})\n", 1),
+                    (f"(lines 3)\n{character}", 2),
+                ):
+                    for job in JOBS:
+                        with self.assertRaises(TurnedAway) as caught:
+                            job(text)
+                        refusal = caught.exception
+                        self.assertEqual(
+                            (refusal.number, refusal.line), (Number.MALFORMED, line)
+                        )
+
+    def test_every_character_but_those_of_texts(self):
+        used = set("(lines 0123456789)\n")
+        for code in [*range(0x80), *range(0x80, 0x110000, 977), 0x10FFFF]:
+            if chr(code) not in used:
+                with self.assertRaises(TurnedAway) as caught:
+                    yilgorza.reduce(f"(lines 3)\n{chr(code)}\n")
+                self.assertEqual(caught.exception.form, "(turned-away 3 2)", hex(code))
+
+    def test_a_length_is_counted_in_bytes(self):
+        for text, number in (
+            ("x" * 60000, Number.MALFORMED),
+            ("x" * 60001, Number.OVERLONG),
+            ("\u00e9" * 30000, Number.MALFORMED),
+            ("\u00e9" * 30001, Number.OVERLONG),
+        ):
+            with self.assertRaises(TurnedAway) as caught:
+                yilgorza.map(text)
+            self.assertEqual(caught.exception.number, number)
+
+    def test_bytes_zero(self):
+        for text in (b"(lines 3)\0\n", b"(lines 3)\n\0", "(lines 3)\n\0\n"):
+            with self.assertRaises(TurnedAway) as caught:
+                yilgorza.map(text)
+            self.assertEqual(caught.exception.number, Number.MALFORMED)
+
+    def test_other_objects(self):
+        for text in (None, 3, 3.0, True, ["(lines 3)"], (40, 41), {}, object(), print):
+            for job in JOBS:
+                with self.subTest(repr(text), job=job.__name__):
+                    with self.assertRaisesRegex(
+                        TypeError,
+                        "^a text is a str or a bytes-like object, "
+                        f"not {type(text).__name__}$",
+                    ):
+                        job(text)
+
+
+if __name__ == "__main__":
+    unittest.main()

@@ -1,0 +1,198 @@
+"""Refusals and results: words, pickling, a process pool, the names exported, and the
+examples in the documentation."""
+
+import ast
+import builtins
+import copy
+import doctest
+import functools
+import multiprocessing
+import pickle
+import re
+import typing
+import unittest
+from concurrent.futures import ProcessPoolExecutor
+from dataclasses import FrozenInstanceError
+
+import yilgorza
+from texts import QUOTES, REFUSALS, REPOSITORY, TOFFOLI
+from yilgorza import Kind, Number, TurnedAway, _library
+
+
+class Refusals(unittest.TestCase):
+    def test_words_are_those_of_the_table(self):
+        page = (REPOSITORY / "README.md").read_text("utf-8")
+        rest = page.partition("| r | in a customer's words |\n")[2]
+        table = rest.partition("\n\n")[0]
+        rows = re.findall(r"^\| (\d+) \| (.+) \|$", table, re.MULTILINE)
+        self.assertEqual(len(rows), 10)
+        self.assertEqual(
+            [(number.value, number.words) for number in Number],
+            [(int(number), words) for number, words in rows],
+        )
+
+    def test_what_a_refusal_says(self):
+        for number in Number:
+            with self.subTest(number.name):
+                refusal = TurnedAway(number, 7)
+                self.assertEqual(refusal.words, number.words)
+                self.assertEqual(
+                    str(refusal),
+                    f"refusal {number.value} at line 7 of the text: {number.words}",
+                )
+                self.assertEqual(
+                    str(TurnedAway(number, 0)),
+                    f"refusal {number.value}: {number.words}",
+                )
+                self.assertEqual(refusal.form, f"(turned-away {number.value} 7)")
+
+    def test_what_a_job_says(self):
+        with self.assertRaises(TurnedAway) as caught:
+            yilgorza.quote("(lines 3)\n(mct (0 2) 2)\n")
+        self.assertEqual(
+            str(caught.exception),
+            "refusal 5 at line 2 of the text: a gate is controlled by its own target",
+        )
+
+    def test_every_number_is_met(self):
+        met = {number for _, number, _ in REFUSALS}
+        self.assertEqual(set(Number) - met, {Number.SHORT_LIST, Number.SHORT_ANSWER})
+
+    def test_a_number_is_shown_as_a_number(self):
+        self.assertEqual(
+            (str(Number.NO_SPARE), f"{Number.NO_SPARE}", "%d" % Number.NO_SPARE),
+            ("8", "8", "8"),
+        )
+
+    def test_a_refusal_by_its_number(self):
+        refusal = TurnedAway(8, 2)
+        self.assertIs(refusal.number, Number.NO_SPARE)
+        with self.assertRaises(ValueError):
+            TurnedAway(11, 2)
+
+    def test_equality_is_identity(self):
+        refusal = TurnedAway(8, 2)
+        self.assertEqual(refusal, refusal)
+        self.assertNotEqual(refusal, TurnedAway(8, 2))
+        self.assertEqual(len({refusal, refusal, TurnedAway(8, 2)}), 2)
+
+
+class Pickled(unittest.TestCase):
+    def same(self, made: TurnedAway, number: int, line: int) -> None:
+        self.assertIs(type(made), TurnedAway)
+        self.assertIs(made.number, Number(number))
+        self.assertEqual(made.line, line)
+        self.assertEqual(str(made), str(TurnedAway(number, line)))
+
+    def test_refusals(self):
+        for number in Number:
+            refusal = TurnedAway(number, 3)
+            for protocol in range(pickle.HIGHEST_PROTOCOL + 1):
+                self.same(pickle.loads(pickle.dumps(refusal, protocol)), number, 3)
+            self.same(copy.copy(refusal), number, 3)
+            self.same(copy.deepcopy(refusal), number, 3)
+
+    def test_results(self):
+        for made in (yilgorza.map(TOFFOLI), yilgorza.quote(TOFFOLI)):
+            self.assertEqual(pickle.loads(pickle.dumps(made)), made)
+
+    def test_process_pool(self):
+        context = multiprocessing.get_context("spawn")
+        with ProcessPoolExecutor(2, mp_context=context) as pool:
+            refused = [
+                (pool.submit(job, text), number, line)
+                for text, number, line in REFUSALS
+                for job in (yilgorza.map, yilgorza.quote)
+            ]
+            for future, number, line in refused:
+                self.same(future.exception(timeout=60), number, line)
+            # The pool lives on.
+            quotes = pool.map(yilgorza.quote, [text for text, _ in QUOTES], timeout=60)
+            self.assertEqual(
+                [quote.count for quote in quotes], [count for _, count in QUOTES]
+            )
+
+
+class Names(unittest.TestCase):
+    def test_import_star(self):
+        names: dict = {}
+        exec("from functools import reduce\nfrom yilgorza import *", names)
+        self.assertIs(names["reduce"], functools.reduce)
+        self.assertNotIn("map", names)
+        self.assertIs(names["TurnedAway"], TurnedAway)
+        self.assertIs(names["Kind"], Kind)
+        hidden = set(dir(builtins)) & set(yilgorza.__all__)
+        self.assertEqual(hidden, set())
+        for name in yilgorza.__all__:
+            self.assertIs(names[name], getattr(yilgorza, name))
+
+    def test_jobs_by_the_name_of_the_module(self):
+        for name in ("map", "reduce", "quote"):
+            self.assertEqual(getattr(yilgorza, name).__module__, "yilgorza")
+
+    def test_version(self):
+        version = (REPOSITORY / "VERSION").read_text("ascii").strip()
+        self.assertRegex(version, r"^\d+\.\d+\.\d+$")
+        self.assertEqual(yilgorza.__version__, version)
+
+    def test_frozen(self):
+        circuit = yilgorza.map(TOFFOLI)
+        for made, name in (
+            (circuit, "text"),
+            (circuit.gates[0], "target"),
+            (yilgorza.quote(TOFFOLI), "count"),
+        ):
+            with self.assertRaises(FrozenInstanceError):
+                setattr(made, name, None)
+            self.assertEqual(hash(made), hash(copy.deepcopy(made)))
+
+    def test_annotations(self):
+        for name in ("map", "reduce", "quote"):
+            hints = typing.get_type_hints(getattr(yilgorza, name))
+            self.assertEqual(set(hints), {"text", "return"})
+        self.assertEqual(
+            typing.get_type_hints(yilgorza.Gate),
+            {"kind": Kind, "control": typing.Optional[int], "target": int},
+        )
+        typing.get_type_hints(yilgorza.Circuit)
+        typing.get_type_hints(yilgorza.Quote)
+        typing.get_type_hints(_library.run)
+
+    def test_all_functions_are_annotated(self):
+        paths = sorted((REPOSITORY / "python/src/yilgorza").glob("*.py"))
+        self.assertEqual([path.name for path in paths], ["__init__.py", "_library.py"])
+        for path in paths:
+            # The grammar of the oldest version that the package is for.
+            tree = ast.parse(path.read_text("utf-8"), feature_version=(3, 9))
+            functions = [
+                node for node in ast.walk(tree) if isinstance(node, ast.FunctionDef)
+            ]
+            self.assertTrue(functions)
+            for function in functions:
+                self.assertIsNotNone(function.returns, function.name)
+                for given in function.args.args:
+                    if given.arg != "self":
+                        self.assertIsNotNone(given.annotation, function.name)
+
+    def test_numbers_of_the_header(self):
+        header = (REPOSITORY / "include/yilgorza.h").read_text("utf-8")
+        names = dict(re.findall(r"\bYILGORZA_(\w+)(?: = | )(\d+)", header))
+        for member in [*Number, *Kind]:
+            self.assertEqual(names[member.name], str(member.value))
+        self.assertEqual(names["LIST_RECORDS"], str(_library.LIST_RECORDS))
+        self.assertEqual(names["ANSWER_BYTES"], str(_library.ANSWER_BYTES))
+        for name in _library._FUNCTIONS:
+            self.assertIn(f"void yilgorza_{name}(", header)
+
+
+class Documentation(unittest.TestCase):
+    def test_examples_of_the_module(self):
+        self.assertEqual(doctest.testmod(yilgorza), (0, 2))
+
+    def test_examples_of_the_page(self):
+        page = str(REPOSITORY / "python/README.md")
+        self.assertEqual(doctest.testfile(page, module_relative=False), (0, 7))
+
+
+if __name__ == "__main__":
+    unittest.main()

@@ -1,0 +1,83 @@
+"""Texts of document 01's examples and their answers, and places in the repository."""
+
+from __future__ import annotations
+
+import os
+from pathlib import Path
+
+from yilgorza import Gate, Kind, Number
+
+REPOSITORY = Path(__file__).resolve().parents[2]
+PROGRAMS = Path(os.environ.get("YILGORZA_BIN") or REPOSITORY / "target/bin")
+ARCHIVE = Path(
+    os.environ.get("YILGORZA_ARCHIVE") or REPOSITORY / "target/staticlib/libcapi.a"
+)
+
+
+def typed(*lines: str) -> bytes:
+    """A text of these lines."""
+    return "".join(line + "\n" for line in lines).encode()
+
+
+TOFFOLI = typed("(lines 3)", "(mct (0 1) 2)")
+TOFFOLI_MAPPED = typed(
+    "(lines 3)", "(v 0 2)", "(v 1 2)", "(cn 0 1)", "(vp 1 2)", "(cn 0 1)"
+)
+TOFFOLI_GATES = (
+    Gate(Kind.V, 0, 2),
+    Gate(Kind.V, 1, 2),
+    Gate(Kind.CN, 0, 1),
+    Gate(Kind.VP, 1, 2),
+    Gate(Kind.CN, 0, 1),
+)
+WIDE = "(mct (0 1 2 3 4 5 6 7 8 9 10 11 12 13 14) 15)"
+
+# Cascades and their quotes.
+QUOTES = [
+    (TOFFOLI, 5),
+    (typed("(lines 3)", "(mct (0 1) 2)", "(mct (0 1) 2)"), 9),
+    (typed("(lines 5)", "(mct (0 1 2) 3)"), 14),
+    (typed("(lines 32)"), 0),
+]
+
+# Circuits and what they are reduced to.
+REDUCTIONS = [
+    (typed("(lines 2)", "(v 0 1)", "(v 0 1)"), typed("(lines 2)", "(cn 0 1)")),
+    (typed("(lines 2)", "(cn 0 1)", "(v 0 1)"), typed("(lines 2)", "(vp 0 1)")),
+    (typed("(lines 2)", "(v 0 1)", "(vp 0 1)"), typed("(lines 2)")),
+    (
+        typed("(lines 3)", "(cn 0 2)", "(cn 1 2)", "(cn 0 2)"),
+        typed("(lines 3)", "(cn 1 2)"),
+    ),
+    (
+        typed("(lines 3)", "(cn 0 1)", "(cn 1 2)", "(cn 0 1)"),
+        typed("(lines 3)", "(cn 0 1)", "(cn 1 2)", "(cn 0 1)"),
+    ),
+    (
+        typed("(lines 2)", "(cn 0 1)", "(not 1)"),
+        typed("(lines 2)", "(not 1)", "(cn 0 1)"),
+    ),
+    (
+        typed("(lines 2)", "(not 0)", "(cn 0 1)", "(not 0)"),
+        typed("(lines 2)", "(not 0)", "(cn 0 1)", "(not 0)"),
+    ),
+]
+
+# Cascades that are turned away, with number and line: every number but 2 and 10,
+# which no text gets, as the module and the programs lend enough.
+REFUSALS = [
+    (b"(" * 60001, Number.OVERLONG, 0),
+    (b"", Number.MALFORMED, 1),
+    (b"(lines 2)\n(mct (0) 1)", Number.MALFORMED, 2),
+    (typed("(lines 33)"), Number.NO_SUCH_LINE, 1),
+    (typed("(lines 2)", "(mct (0) 1)", "(mct (0) 2)"), Number.NO_SUCH_LINE, 3),
+    (typed("(lines 2)", "(mct (0) 0)"), Number.CROSSED, 2),
+    (typed("(lines 3)", "(mct (1 0) 2)"), Number.UNSORTED, 2),
+    (
+        typed("(lines 17)", "(mct (0 1 2 3 4 5 6 7 8 9 10 11 12 13 14 15) 16)"),
+        Number.TOO_WIDE,
+        2,
+    ),
+    (typed("(lines 4)", "(mct (0 1 2) 3)"), Number.NO_SPARE, 2),
+    (typed("(lines 17)", *[WIDE] * 12), Number.TOO_MANY, 13),
+]
