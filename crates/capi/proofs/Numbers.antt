@@ -7,19 +7,13 @@ use Prim.Native.Nat.{ℕ, zero, suc, _+_, _*_, _/_, _%_, _≤_, _<_}
 use native.Mathlib.Omega.{arith}
 use lib.Dec.{eqb}
 use borrow.Author.Tests.{eqb-true, eqb-false}
-use Rattle.gates.specs.declared.Gate.{Gate}
-use Rattle.gates.specs.Circuit.{power, Valid, valid-not, valid-powered}
+use Rattle.gates.specs.Circuit.{valid-not, valid-powered}
 use Rattle.gates.specs.Code.{code, gate, Code}
 use Rattle.gates.proofs.Sites.{passes-self}
-use Rattle.gates.proofs.Codes.{target-gate, slot-gate, power-gate, gate-not, gate-powered, code-not, code-powered, code-code, code-injective, below}
+use Rattle.gates.proofs.Codes.{target-gate, slot-gate, power-gate, gate-not, gate-powered, code-not, code-powered, code-code, code-injective, below, some-power}
 use Rattle.capi.specs.Exported.{three, gate-parts, RecordParts, of-gate, of-none, Whether}
 
 -- ---- which numbers are gates'
-
-some-power : {n : ℕ} {g : Gate} → Valid n g → 1 ≤ power g
-unfolding power
-some-power (valid-not h) = omega arith
-some-power (valid-powered a b c d e) = a
 
 module _ (k : ℕ) where
   pub none-above : 4224 ≤ k → Code 32 k → ⊥

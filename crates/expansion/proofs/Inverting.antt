@@ -8,10 +8,10 @@ use lib.ListN.{length, getD, take, set}
 use lib.Seq.{slice, slice-cons, slice-empty, length-slice, getD-take, getD-drop}
 use Rattle.gates.specs.declared.Gate.{Gate}
 use Rattle.gates.specs.declared.Gate.the-variants.{Powered}
-use Rattle.gates.specs.Circuit.{Valid, valid-not, valid-powered, AllValid, power}
+use Rattle.gates.specs.Circuit.{AllValid}
 use Rattle.gates.specs.Inverse.{inverse, inverted}
 use Rattle.gates.specs.Code.{code, gate, gates, Code, AllCodes}
-use Rattle.gates.proofs.Codes.{power-gate, gate-not, gate-powered, code-powered}
+use Rattle.gates.proofs.Codes.{power-gate, gate-not, gate-powered, code-powered, some-power}
 use Rattle.gates.proofs.CodeLists.{code-at, gates-code}
 use Rattle.cascades.specs.Expansion.{_⨾_}
 use Rattle.expansion.specs.Written.{Written}
@@ -22,11 +22,6 @@ use Rattle.expansion.proofs.Writing.{none, one, both}
 pub inverted-not : (k : ℕ) → Code 32 k → k / 4 % 33 ≡ 0 → k ≡ code (inverted (gate k))
 unfolding inverted
 inverted-not k w e = sym (w .exact) ∙ ap code (rw (← gate-not k e))
-
-some-power : {n : ℕ} {g : Gate} → Valid n g → 1 ≤ power g
-unfolding power
-some-power (valid-not h) = omega arith
-some-power (valid-powered a b c d e) = a
 
 powered-code : (p c t : ℕ) → 1 ≤ p → p ≤ 3 → code (inverted (Powered p c t)) ≡ (t * 33 + c + 1) * 4 + (4 - p)
 unfolding inverted

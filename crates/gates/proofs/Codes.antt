@@ -11,6 +11,12 @@ use Rattle.gates.specs.Circuit.{target, slot, power, Valid, valid-not, v
 use Rattle.gates.specs.Order.{Earlier, by-target, by-control, by-power}
 use Rattle.gates.specs.Code.{code, assembled, gate, Code}
 
+-- no valid gate has power 0
+pub some-power : {n : ℕ} {g : Gate} → Valid n g → 1 ≤ power g
+unfolding power
+some-power (valid-not h) = omega arith
+some-power (valid-powered a b c d e) = a
+
 -- ---- the parts of a number
 
 target-assembled : (p s t : ℕ) → target (assembled p s t) ≡ t

@@ -26,11 +26,11 @@ use Rattle.loading.specs.declared.Verdict.{Verdict}
 use Rattle.loading.specs.declared.Loaded.{Loaded}
 use Rattle.loading.specs.declared.Loaded.the-variants as loaded
 use Rattle.loading.specs.Seen.{seen-verdict}
-use Rattle.loading.specs.Loaded.{LoadsTo}
+use Rattle.loading.specs.Loaded.{Renderable, LoadsTo}
 use Rattle.reduction.specs.Reducing.{ReducedTo}
 use Rattle.jobs.specs.Jobs.{Job, quoting, takes, as-text, as-count, output, writes, Exit, left, filled, refusal, judged, judged-text, size-rules, success, written, answered, Settled, Says}
 use Rattle.jobs.proofs.One.{text-passed, passed-valid}
-use Rattle.jobs.specs.Handing.{exit-of, Said, Hands, AcceptsReduced, LoadsReduced, refused, succeeded, text-of, written-done, written-area, text-done, text-area, count-done, Renderable, Answerable}
+use Rattle.jobs.specs.Handing.{exit-of, Said, Hands, AcceptsReduced, LoadsReduced, refused, succeeded, text-of, written-done, written-area, text-done, text-area, count-done, Answerable}
 
 -- ---- the records
 
@@ -101,19 +101,19 @@ module _ (j : Job) (s a codes : List ℕ) (room : ℕ) (h : Head) (m : ℕ) (all
 
   succeeded-fits : (count : ℕ) → Fits (succeeded m count room codes) room
   unfolding succeeded
-  succeeded-fits count = record { there = w .few; valid = w .valid; few = omega (arith, text-passed (takes j) s room (w .judged) .room, w .few); within = omega arith }
+  succeeded-fits count = record { there = w .renderable .few; valid = w .renderable .codes; few = omega (arith, text-passed (takes j) s room (w .judged) .room, w .renderable .few); within = omega arith }
 
   -- what is handed over with success leads to its exit
   succeeded-exit : (n count : ℕ) (b : List ℕ) (l : List Gate) → length l ≡ room → count ≡ n → exit-of (succeeded m count room codes .outcome) (finished (succeeded m count room codes) l) b ≡ success (record { text = s; list = l; area = a }) (gates (take m codes)) n b
   unfolding succeeded
   succeeded-exit n count b l e k =
-      ap (λ (t : List Gate). record { number = 0; line = 0; count = count; list = t; area = b }) (filled-list m count room codes l (omega (arith, w .few, all)) e)
+      ap (λ (t : List Gate). record { number = 0; line = 0; count = count; list = t; area = b }) (filled-list m count room codes l (omega (arith, w .renderable .few, all)) e)
       ∙ ap (λ (i : ℕ). record { number = 0; line = 0; count = i; list = filled (gates (take m codes)) l; area = b }) k
 
   -- quote
   pub quoted-hands : output j ≡ as-count → Hands j s room a (succeeded m m room codes) a
   unfolding answered
-  quoted-hands i = answers (succeeded m m room codes) a (succeeded-fits m) (λ l e. rw i (succeeded-exit (length (gates (take m codes))) m a l e (omega (arith, length-gates (take m codes), length-take m codes, w .few, all))))
+  quoted-hands i = answers (succeeded m m room codes) a (succeeded-fits m) (λ l e. rw i (succeeded-exit (length (gates (take m codes))) m a l e (omega (arith, length-gates (take m codes), length-take m codes, w .renderable .few, all))))
 
   -- map and reduce
   pub written-hands : output j ≡ as-text → Hands j s room a (written-done h m room codes a) (written-area h m codes a)
@@ -132,20 +132,18 @@ reduces k s room {codes} {h = h} {m} w x = record {
   circuit = gates (take m codes);
   judged = w .judged;
   reduced = x .reduced (h .lines) (passed-valid (text-passed k s room (w .judged)));
-  valid = x .codes;
-  few = omega (arith, w .few, x .within);
-  narrow = w .narrow;
+  renderable = record { narrow = w .renderable .narrow; few = omega (arith, w .renderable .few, x .within); codes = x .codes };
 }
 
 -- ---- by the reduced list, or the refusal
 
 pub answerable : (j : Judged) (codes : List ℕ) (x : Loaded) → LoadsReduced j codes x → Answerable x codes
-answerable j codes (loaded.Accepted h m) w = record { narrow = w .narrow; few = w .few; valid = w .valid }
+answerable j codes (loaded.Accepted h m) w = w .renderable
 answerable j codes (loaded.Refused r l) w = tt
 
 -- fewer of the codes can be written too
 pub fewer : {h : Head} {m k : ℕ} {codes : List ℕ} → k ≤ m → Renderable h m codes → Renderable h k codes
-fewer {m = m} {k} {codes} l w = record { narrow = w .narrow; few = omega (arith, w .few); valid = rw (← take-take k m codes l) (all-codes-take 32 k (take m codes) (w .valid)) }
+fewer {m = m} {k} {codes} l w = record { narrow = w .narrow; few = omega (arith, w .few); codes = rw (← take-take k m codes l) (all-codes-take 32 k (take m codes) (w .codes)) }
 
 -- the job that answers a text of this kind with a circuit text takes such a text, and puts out a text
 takes-writes : (k : Kind) → takes (writes k) ≡ k

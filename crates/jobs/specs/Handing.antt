@@ -2,13 +2,13 @@
 use mathlib.Core.Path.{_≡_}
 use mathlib.Core.Bool.{cond}
 use mathlib.Core.List.{List, _++_}
-use Prim.Native.Nat.{ℕ, _≤_}
+use Prim.Native.Nat.{ℕ}
 use lib.ListN.{length, take, drop, replicate}
 use lib.Dec.{leb, ltb}
 use Rattle.gates.specs.declared.Gate.{Gate}
 use Rattle.gates.specs.declared.Gate.the-variants.{Not}
 use Rattle.gates.specs.Reduced.{Reduced}
-use Rattle.gates.specs.Code.{gates, AllCodes}
+use Rattle.gates.specs.Code.{gates}
 use Rattle.records.specs.declared.Done.{Done}
 use Rattle.records.specs.declared.Outcome.{Outcome}
 use Rattle.records.specs.Records.{finished, Fits}
@@ -18,6 +18,7 @@ use Rattle.text.specs.declared.Head.{Head}
 use Rattle.text.specs.Refusals.{number-of}
 use Rattle.text.specs.Text.{circuit-text}
 use Rattle.text.specs.Judging.{Judged, turned-away, accepted}
+use Rattle.loading.specs.Loaded.{Renderable}
 use Rattle.loading.specs.declared.Loaded.{Loaded}
 use Rattle.loading.specs.declared.Loaded.the-variants as loaded
 use Rattle.jobs.specs.Jobs.{Job, Exit, Says}
@@ -46,9 +47,7 @@ pub record AcceptsReduced (j : Judged) (codes : List ℕ) (h : Head) (m : ℕ) :
   pub circuit : List Gate
   pub judged : j ≡ accepted h circuit
   pub reduced : Reduced (h .lines) circuit (gates (take m codes))
-  pub valid : AllCodes 32 (take m codes)
-  pub few : m ≤ 4096
-  pub narrow : h .lines ≤ 32
+  pub renderable : Renderable h m codes
 
 -- of a text that is judged j, the reduced list or the refusal
 abbrev pub LoadsReduced : Judged → List ℕ → Loaded → Type 0
@@ -75,12 +74,6 @@ written-done h m room codes a = cond (ltb (length a) (length (text-of h m codes)
 
 unfoldable pub written-area : Head → ℕ → List ℕ → List ℕ → List ℕ
 written-area h m codes a = cond (ltb (length a) (length (text-of h m codes))) a (text-of h m codes ++ drop (length (text-of h m codes)) a)
-
--- the first m codes can be written as a text below the head h
-pub record Renderable (h : Head) (m : ℕ) (codes : List ℕ) : Type 0 where
-  pub narrow : h .lines ≤ 32
-  pub few : m ≤ 4096
-  pub valid : AllCodes 32 (take m codes)
 
 -- ---- by the reduced list, or the refusal
 

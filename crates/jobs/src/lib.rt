@@ -15,9 +15,9 @@ ghost use lib.Dec.{leb};
 ghost use lib.ListN.{length};
 ghost use Rattle.text.specs.Judging.{first};
 ghost use Rattle.loading.specs.Seen.{seen-verdict};
-ghost use Rattle.loading.specs.Loaded.{LoadsTo};
+ghost use Rattle.loading.specs.Loaded.{Renderable, LoadsTo};
 ghost use Rattle.jobs.specs.Jobs.{mapping, reducing, quoting, writes, size-rules, judged-text, Says};
-ghost use Rattle.jobs.specs.Handing.{LoadsReduced, Hands, Own, refused, succeeded, written-done, written-area, text-done, text-area, count-done, Renderable, Answerable};
+ghost use Rattle.jobs.specs.Handing.{LoadsReduced, Hands, Own, refused, succeeded, written-done, written-area, text-done, text-area, count-done, Answerable};
 
 // How many records a refusal writes: none for 1 and 2, else all.
 fn limit(number: u8, room: usize) -> usize

@@ -13,9 +13,9 @@ use Rattle.text.specs.Text.{Form, lines, gate, mct}
 use Rattle.text.specs.Reading.{Got, got, none, parse, cut}
 use Rattle.text.specs.declared.Kind.{Kind}
 use Rattle.text.specs.Judging.{turned-away, first, head-rules, or-else, judge-lines, judge-text, read-all, judge}
+use Rattle.text.proofs.Printed.{none-got}
 use Rattle.text.proofs.Cursor.{at-form, at-bad, at-end}
 use Rattle.reading.specs.Seen.{only-head}
-use Rattle.reading.proofs.Lines.{none-got}
 use Rattle.loading.specs.Seen.{HasHead}
 
 -- a number of lines is in range

@@ -13,12 +13,11 @@ use Rattle.text.specs.Reading.{Got, got, none, parse, cut}
 use Rattle.text.specs.declared.Kind.{Kind}
 use Rattle.text.specs.declared.Kind.the-variants.{Cascade, Circuit}
 use Rattle.text.specs.Judging.{Judged, turned-away, gates, belongs, Found, sound, breaks, first, rules, or-else, judge-lines, read-all}
-use Rattle.text.proofs.Printed.{parse-sound}
+use Rattle.text.proofs.Printed.{none-got, parse-sound}
 use Rattle.text.proofs.Cursor.{at-form, at-bad}
 use Rattle.text.proofs.Accepted.{Kept, keeps as rules-kept}
 use Rattle.reading.specs.declared.Controls.{Controls}
 use Rattle.reading.specs.Seen.{only-gate, only-mct, gathered, with-gathered}
-use Rattle.reading.proofs.Lines.{none-got}
 use Rattle.loading.specs.Seen.{Judgement, keeps, fails, by-rules, by-form, judge-line}
 
 -- ---- one line

@@ -133,7 +133,7 @@ pub loaded-all : {k : Kind} {j : Judged} {s : List ℕ} {p : Progress} {l : List
 loaded-all {k} {j} {s} {p} {l} w e = go (p .loaded) (w .judged) (w .sound)
   where
     go : (x : Loaded) → judged-on k s (p .place) (p .lines) x l ≡ j → Sound k s (p .place) (p .lines) x l → LoadsTo j l x
-    go (loaded.Accepted h m) q v = record { judged = sym q ∙ lines-end k h (p .lines) (gates-of (take m l)) s (p .place) e; codes = v .codes; few = v .few; narrow = v .narrow }
+    go (loaded.Accepted h m) q v = record { judged = sym q ∙ lines-end k h (p .lines) (gates-of (take m l)) s (p .place) e; renderable = record { narrow = v .narrow; few = v .few; codes = v .codes } }
     go (loaded.Refused r i) q v = sym q
 
 -- ---- a gate of a circuit

@@ -17,13 +17,17 @@ use Rattle.loading.specs.declared.Progress.{Progress}
 use Rattle.loading.specs.declared.Loaded.{Loaded}
 use Rattle.loading.specs.declared.Loaded.the-variants as loaded
 
+-- the first m codes of the list l can be written as a text below the head h
+pub record Renderable (h : Head) (m : ℕ) (l : List ℕ) : Type 0 where
+  pub narrow : h .lines ≤ 32
+  pub few : m ≤ 4096
+  pub codes : AllCodes 32 (take m l)
+
 -- an accepted text with the head h: its circuit, read or expanded, is the gates of the first m codes of the list l; nothing is said of the other
 -- codes, nor of any where the text is refused
 pub record Accepts (j : Judged) (l : List ℕ) (h : Head) (m : ℕ) : Type 0 where
   pub judged : j ≡ accepted h (gates (take m l))
-  pub codes : AllCodes 32 (take m l)
-  pub few : m ≤ 4096
-  pub narrow : h .lines ≤ 32
+  pub renderable : Renderable h m l
 
 -- a text that is judged j was loaded into the list l
 abbrev pub LoadsTo : Judged → List ℕ → Loaded → Type 0

@@ -3,13 +3,13 @@ use mathlib.Core.Path.{_≡_, refl, sym, ap, _∙_}
 use mathlib.Core.Bool.{Bool, true, false, cond, not, _&&_, _||_, and-eq-true-iff}
 use mathlib.Core.List.{List, [], _∷_}
 use Prim.Native.Nat.{ℕ}
-use native.Mathlib.Omega.{arith}
 use lib.Dec.{eqb}
 use borrow.Author.Tests.{eq-eqb, eqb-true}
 use Rattle.gates.specs.declared.Gate.{Gate}
 use Rattle.gates.specs.declared.Gate.the-variants.{Not, Powered}
 use Rattle.text.specs.Text.{Form, lines, gate, mct, bytes}
 use Rattle.text.specs.Reading.{Got, got, none, bind, if-got, strip, num, tail, pair, control, list, many, lines-body, not-body, mct-body, powered-body, parse}
+use Rattle.text.proofs.Printed.{none-got}
 use Rattle.reading.specs.declared.Controls.{Controls}
 use Rattle.reading.specs.Seen.{only-head, only-gate, only-mct, gathered, all-gathered, with-gathered, delimited, two-after, or-powered}
 
@@ -19,9 +19,6 @@ differ : List ℕ → List ℕ → Bool
 differ [] w = false
 differ (a ∷ v) [] = false
 differ (a ∷ v) (b ∷ w) = not (eqb a b) || differ v w
-
-pub none-got : {A : Type 0} {a : A} {s : List ℕ} → none ≡ got a s → ⊥
-none-got e = let z : _≡_ {A = ℕ} 0 1 = cc in omega arith
 
 false-true : false ≡ true → ⊥
 false-true = mathlib.Core.Bool.false≢true

@@ -9,8 +9,9 @@ use native.Mathlib.Omega.{arith}
 use lib.ListN.{length, drop, getD, length-drop, drop-of-length-le}
 use lib.Seq.{drop-cons}
 use lib.Dec.{eqb, leb}
-use borrow.Author.Tests.{eq-eqb, ne-eqb, eqb-true, le-leb, lt-leb}
+use borrow.Author.Tests.{eq-eqb, ne-eqb, eqb-true, lt-leb}
 use Rattle.text.specs.Reading.{got, none, digit, num, second, strip}
+use Rattle.text.proofs.Printed.{digit-yes}
 
 -- ---- what a callee's answer tells, once it is known which it is
 
@@ -18,9 +19,6 @@ pub told {ℓ κ} : {A : Type ℓ} {B : Type κ} (f : A → B) {g : B} {r a : A}
 told f h e = sym h ∙ ap f e
 
 -- ---- digits
-
-digit-yes : (a : ℕ) → 48 ≤ a → a ≤ 57 → digit a ≡ true
-digit-yes a h k = rw (le-leb 48 a h, le-leb a 57 k)
 
 pub digit-low : (a : ℕ) → a < 48 → digit a ≡ false
 digit-low a h = rw (lt-leb 48 a h)

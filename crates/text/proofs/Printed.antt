@@ -15,7 +15,7 @@ use Rattle.text.specs.Reading.{Got, got, none, bind, if-got, strip, digi
 
 -- ---- booleans and answers
 
-none-got : {A : Type 0} {a : A} {s : List ℕ} → none ≡ got a s → ⊥
+pub none-got : {A : Type 0} {a : A} {s : List ℕ} → none ≡ got a s → ⊥
 none-got e = let z : _≡_ {A = ℕ} 0 1 = cc in omega arith
 
 unbind : {A B : Type 0} (g : Got A) (f : A → List ℕ → Got B) {b : B} {r : List ℕ} → bind g f ≡ got b r → (a : A) × (s : List ℕ) × (g ≡ got a s) × (f a s ≡ got b r)
@@ -44,7 +44,7 @@ strip-sound (a ∷ w) (b ∷ s) r e = go (strip-sound w s r) (eqb b a) refl e
 
 -- ---- numbers
 
-digit-yes : (a : ℕ) → 48 ≤ a → a ≤ 57 → digit a ≡ true
+pub digit-yes : (a : ℕ) → 48 ≤ a → a ≤ 57 → digit a ≡ true
 digit-yes a h k = rw (le-leb 48 a h, le-leb a 57 k)
 
 -- a 0 stands alone: of `03` it is the number, and 3 is left

@@ -32,25 +32,11 @@ pub fn gate(record: u16) -> Option<Gate> {
     }
 }
 
-/// The numbers in order, from 1.
-const NUMBERS: [Number; 10] = [
-    Number::Overlong,
-    Number::ShortList,
-    Number::Malformed,
-    Number::NoSuchLine,
-    Number::Crossed,
-    Number::Unsorted,
-    Number::TooWide,
-    Number::NoSpare,
-    Number::TooMany,
-    Number::ShortAnswer,
-];
-
 fn result([number, line, count]: [u64; 3]) -> Result<usize, Refusal> {
     match number {
         0 => Ok(count as usize),
         _ => Err(Refusal {
-            number: NUMBERS[number as usize - 1],
+            number: Number::ALL[number as usize - 1],
             line,
         }),
     }

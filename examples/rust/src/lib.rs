@@ -54,6 +54,20 @@ pub struct Refusal {
 }
 
 impl Number {
+    /// The numbers in order, from 1.
+    pub const ALL: [Number; 10] = [
+        Number::Overlong,
+        Number::ShortList,
+        Number::Malformed,
+        Number::NoSuchLine,
+        Number::Crossed,
+        Number::Unsorted,
+        Number::TooWide,
+        Number::NoSpare,
+        Number::TooMany,
+        Number::ShortAnswer,
+    ];
+
     /// The refusal in a customer's words.
     pub fn words(self) -> &'static str {
         match self {

@@ -186,19 +186,7 @@ fn lent_memory() {
 #[test]
 fn refusals_in_words() {
     let page = include_str!("../../../README.md");
-    let numbers = [
-        Number::Overlong,
-        Number::ShortList,
-        Number::Malformed,
-        Number::NoSuchLine,
-        Number::Crossed,
-        Number::Unsorted,
-        Number::TooWide,
-        Number::NoSpare,
-        Number::TooMany,
-        Number::ShortAnswer,
-    ];
-    for (place, number) in numbers.into_iter().enumerate() {
+    for (place, number) in Number::ALL.into_iter().enumerate() {
         let row = format!("| {} | {} |", place + 1, number.words());
         assert_eq!(number as usize, place + 1);
         assert!(page.lines().any(|line| line == row), "{row}");

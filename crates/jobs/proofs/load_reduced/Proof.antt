@@ -25,7 +25,7 @@ reduce-requires : tie.Need-reduce-requires
 reduce-requires c κs =
     let y = c .before .before .before .before .before .before in
     let w = rw (c .before .before .loaded .given .1) at (y .load-text .ensures) in
-    ((w .few, omega (arith, w .few, y .load-text .kept .1 .1 .1 .0, y .before .before .before .before .pre)), w .codes)
+    ((w .renderable .few, omega (arith, w .renderable .few, y .load-text .kept .1 .1 .1 .0, y .before .before .before .before .pre)), w .renderable .codes)
 
 same-length-2 : tie.Need-same-length-2
 same-length-2 c = search needs
