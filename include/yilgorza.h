@@ -1,5 +1,6 @@
 /* Yilgorza for C: maps a cascade of multiple-control Toffoli gates to a list of
-   NCV gates, reduces such a list, and quotes its gate count.
+   NCV gates, reduces such a list, quotes its gate count, and says whether two
+   such lists are one circuit.
 
    The functions are in the archive target/staticlib/libcapi.a, which
    `rt staticlib capi` proves and writes. `bin/shared-object ARCHIVE OUT` makes a
@@ -7,9 +8,9 @@
    libyilgorza.so. The code is for x86-64, with the calling convention of System V.
 
    Proved, for every call that keeps what is asked of its pointers and lengths,
-   none of them null: it ends, and what is said below of outcome, list, answer area and gate holds,
-   whatever the bytes of the text (crates/capi/specs/Exported.antt has the
-   contracts).
+   none of them null: it ends, and what is said below of outcome, lists, answer
+   area and gate holds, whatever the bytes of the texts
+   (crates/capi/specs/Exported.antt has the contracts).
 
    Measured of the archive, by tests/interface/run, and not proved:
 
@@ -19,7 +20,7 @@
      kernel: so nothing is allocated, and all memory is lent by the caller;
    - it has no data that can be written: so nothing is kept between calls;
    - calls may run at the same time, with lists, answer areas and outcomes of
-     their own; they may share one text;
+     their own; they may share their texts;
    - a call takes less than 64 KiB of stack;
    - a pointer may be null if its length is 0. */
 
@@ -40,7 +41,7 @@ extern "C" {
 #define YILGORZA_LIST_RECORDS 4096
 #define YILGORZA_ANSWER_BYTES 45067
 
-/* The places of the outcome, an area of three numbers. */
+/* The places of the outcome of a job over one text, an area of three numbers. */
 enum {
     YILGORZA_NUMBER = 0, /* 0, or the number of the refusal */
     YILGORZA_LINE = 1,   /* the line of the text that is refused, counted from 1;
@@ -49,11 +50,29 @@ enum {
                             the gates counted by quote; else 0 */
 };
 
+/* The places of the outcome of a job over several texts, an area of four
+   numbers. */
+enum {
+    YILGORZA_SEVERAL_NUMBER = 0, /* 0, or the number of the refusal */
+    YILGORZA_SEVERAL_LINE = 1,   /* the line that is refused, counted from 1, of
+                                    the text that the next place names; 0 on
+                                    success and with the numbers 1 and 2 */
+    YILGORZA_SEVERAL_TEXT = 2,   /* the text whose rule or line refuses, counted
+                                    from 1 in the order in which the job takes
+                                    them; 0 on success */
+    YILGORZA_SEVERAL_COUNT = 3   /* on success what compare finds; else 0 */
+};
+
+/* What compare finds, as its count: the first text is less than the second, equal
+   to it or greater. */
+enum { YILGORZA_LESS = 0, YILGORZA_EQUAL = 1, YILGORZA_GREATER = 2 };
+
 /* The ten numbers of a refusal. n is the number of line 1, `(lines n)`, and k the
    number of controls of an mct; docs/USING.md of the repository has the forms of
-   the texts. Number 1 is tried first, then 2. Then the lines of
-   the text are taken in order, and each is tried against 3 to 9 in that order; the
-   first line that fails is returned. Then comes 10. */
+   the texts. Number 1 is tried first, then 2. Then the lines of the text are taken
+   in order, and each is tried against 3 to 9 in that order; the first line that
+   fails is returned. Then comes 10. Of several texts each is tried against 1 to 9,
+   against 2 with its own list, before the next one is looked at. */
 enum {
     YILGORZA_SUCCESS = 0,
     YILGORZA_OVERLONG = 1,     /* the text has more than 60,000 bytes */
@@ -82,14 +101,14 @@ enum {
    reads a record. This is the record of `not 0`. */
 #define YILGORZA_NOT_0 2
 
-/* The three jobs. Each takes a text of text_len bytes, a list of list_len records
-   and an outcome of three numbers, and map and reduce an answer area of
-   answer_len bytes.
+/* Asked of a call of a job: the lengths are the true lengths of the areas. Each
+   pointer has its type's alignment, and is not null; with a length of 0 it may be.
+   None of the areas that are written overlaps another area. A text is only read. It
+   may hold any bytes, and the areas may have any lengths. */
 
-   Asked of a call: the lengths are the true lengths of the areas. Each pointer has
-   its type's alignment, and is not null; with a length of 0 it may be. None of
-   the areas that are written overlaps another area. The text is only read. It may
-   hold any bytes, and the areas may have any lengths.
+/* The three jobs over one text. Each takes a text of text_len bytes, a list of
+   list_len records and an outcome of three numbers, and map and reduce an answer
+   area of answer_len bytes.
 
    On success the list holds first the reduced list, gate by gate, and `not 0` in
    every later record; the answer area holds that list as a circuit text at its
@@ -113,6 +132,30 @@ void yilgorza_reduce(const uint8_t *text, size_t text_len, uint16_t *list,
 /* Quotes the gate count of a cascade text. */
 void yilgorza_quote(const uint8_t *text, size_t text_len, uint16_t *list,
                     size_t list_len, uint64_t *outcome);
+
+/* The job over two texts: are they one circuit? Each is a circuit text with a list
+   of its own, and the outcome has four numbers. The two texts may be one area.
+
+   The circuits are compared by n first, the smaller one being less. With the same
+   n their reduced lists are compared in dictionary order, gate by gate in the order
+   of their numbers; a list that ends sooner is less than one that goes on. So they
+   are equal exactly if n is the same and passes and merges lead from one circuit to
+   the other. The order is total: it can sort texts, and puts those of one circuit
+   side by side. Less and greater change places if the texts do.
+
+   On success each list holds first the reduced list of its own text, and `not 0` in
+   every later record. How many gates it has is not returned, and its records do
+   not show it, as its last gate may be a `not 0` too: reduce tells it.
+
+   Of the numbers only 1, 2, 3, 4, 5 and 9 are given. Numbers 1 and 2, of either
+   text, leave both lists unchanged, also that of a first text which had nothing
+   wrong. The others leave `not 0` in every record of both lists, also in those of
+   a list with fewer than 4,096. */
+void yilgorza_compare(const uint8_t *first, size_t first_len,
+                      uint16_t *first_list, size_t first_list_len,
+                      const uint8_t *second, size_t second_len,
+                      uint16_t *second_list, size_t second_list_len,
+                      uint64_t *outcome);
 
 /* Reads a record into an area of three bytes: kind, control and target. The pointer
    is not null. A NOT has control 0. The kind is 0, with control and target 0, for

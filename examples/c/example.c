@@ -1,4 +1,6 @@
-/* Maps the Toffoli gate, and prints the answer, the gate list and the quote. */
+/* Maps the Toffoli gate, and prints the answer, the gate list and the quote. Then
+   compares a circuit that was ordered with two drawings of it that came later, one
+   of them with a line that the circuit does not have. */
 
 #include <inttypes.h>
 #include <stdio.h>
@@ -8,11 +10,17 @@
 
 static const char text[] = "(lines 3)\n(mct (0 1) 2)\n";
 
+static const char ordered[] = "(lines 3)\n(v 1 2)\n(v 1 2)\n";
+static const char redrawn[] = "(lines 3)\n(cn 0 2)\n(cn 1 2)\n(cn 0 2)\n";
+static const char mistyped[] = "(lines 3)\n(cn 0 2)\n(cn 1 3)\n(cn 0 2)\n";
+
 static uint16_t list[YILGORZA_LIST_RECORDS];
+static uint16_t second_list[YILGORZA_LIST_RECORDS];
 static uint8_t answer[YILGORZA_ANSWER_BYTES];
 
-/* The name of a kind of gate. */
+/* The name of a kind of gate, and of what compare finds. */
 static const char *const kinds[] = {"?", "v", "cn", "vp", "not"};
+static const char *const found[] = {"less", "equal", "greater"};
 
 static void print_gate(uint16_t record) {
     uint8_t gate[3];
@@ -32,6 +40,21 @@ static int accepted(const uint64_t *outcome) {
     return 0;
 }
 
+/* Compares two circuit texts, and prints what is found, or which is turned away. */
+static void compare(const char *first, const char *second) {
+    uint64_t outcome[4];
+    yilgorza_compare((const uint8_t *)first, strlen(first), list,
+                     YILGORZA_LIST_RECORDS, (const uint8_t *)second,
+                     strlen(second), second_list, YILGORZA_LIST_RECORDS, outcome);
+    if (outcome[YILGORZA_SEVERAL_NUMBER] == YILGORZA_SUCCESS)
+        printf("compare: %s\n", found[outcome[YILGORZA_SEVERAL_COUNT]]);
+    else
+        printf("compare: text %" PRIu64 " is turned away: number %" PRIu64
+               ", line %" PRIu64 "\n",
+               outcome[YILGORZA_SEVERAL_TEXT], outcome[YILGORZA_SEVERAL_NUMBER],
+               outcome[YILGORZA_SEVERAL_LINE]);
+}
+
 int main(void) {
     const uint8_t *bytes = (const uint8_t *)text;
     size_t length = strlen(text);
@@ -48,6 +71,11 @@ int main(void) {
         return 1;
     for (uint64_t i = 0; i < outcome[YILGORZA_COUNT]; i++)
         print_gate(list[i]);
-    printf("\nquote %" PRIu64 "\n", outcome[YILGORZA_COUNT]);
+    printf("\nquote %" PRIu64 "\n\n", outcome[YILGORZA_COUNT]);
+
+    compare(ordered, redrawn);
+    print_gate(list[0]);
+    print_gate(second_list[0]);
+    compare(ordered, mistyped);
     return 0;
 }

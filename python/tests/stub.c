@@ -1,5 +1,6 @@
 /* Functions that answer what the library never does: to an empty text a circuit
-   of one gate whose number is no gate's, to any other the refusal 11. */
+   of one gate whose number is no gate's, and compare a count of 3; to any other the
+   refusal 11. */
 
 #include <stddef.h>
 #include <stdint.h>
@@ -33,6 +34,19 @@ void yilgorza_quote(const uint8_t *text, size_t text_len, uint16_t *list,
                     size_t list_len, uint64_t *outcome) {
     (void)text, (void)list_len;
     answer_nonsense(text_len, list, outcome, 1);
+}
+
+void yilgorza_compare(const uint8_t *first, size_t first_len,
+                      uint16_t *first_list, size_t first_list_len,
+                      const uint8_t *second, size_t second_len,
+                      uint16_t *second_list, size_t second_list_len,
+                      uint64_t *outcome) {
+    (void)first, (void)first_list, (void)first_list_len, (void)second;
+    (void)second_len, (void)second_list, (void)second_list_len;
+    outcome[0] = first_len == 0 ? 0 : 11;
+    outcome[1] = 0;
+    outcome[2] = first_len == 0 ? 0 : 1;
+    outcome[3] = first_len == 0 ? 3 : 0;
 }
 
 void yilgorza_gate(uint16_t record, uint8_t *gate) {

@@ -1,28 +1,43 @@
-"""The jobs on document 01's examples, from the module and from the three programs.
+"""The jobs on document 01's examples, from the module and from the programs.
 
 The environment variable YILGORZA_BIN names the folder of the programs; else it
 is target/bin of the repository.
 """
 
+import functools
+import itertools
 import subprocess
 import sys
+import tempfile
 import unittest
 from concurrent.futures import ThreadPoolExecutor
+from pathlib import Path
 
 import yilgorza
 from texts import (
+    CIRCUIT_REFUSALS,
     PROGRAMS,
     QUOTES,
     REDUCTIONS,
     REFUSALS,
     REPOSITORY,
+    RISING,
     TOFFOLI,
     TOFFOLI_GATES,
     TOFFOLI_MAPPED,
     WIDE,
     typed,
 )
-from yilgorza import Gate, InternalError, Kind, Number, TurnedAway
+from yilgorza import Gate, InternalError, Kind, Number, Ordering, TurnedAway
+
+# A circuit that is accepted, and every drawing of RISING with its circuit's place.
+GOOD = typed("(lines 2)", "(cn 0 1)")
+DRAWN = [(place, text) for place, ways in enumerate(RISING) for text in ways]
+
+
+def order(first: int, second: int) -> Ordering:
+    """What compare is to find of circuits at these places of RISING."""
+    return Ordering((first > second) - (first < second))
 
 
 class Module(unittest.TestCase):
@@ -60,6 +75,47 @@ class Module(unittest.TestCase):
                         job(text)
                     self.assertEqual(caught.exception.number, number)
                     self.assertEqual(caught.exception.line, line)
+
+    def test_comparisons(self):
+        for (first, text), (second, other) in itertools.product(DRAWN, DRAWN):
+            found = yilgorza.compare(text, other)
+            self.assertIs(found, order(first, second), (text, other))
+
+    def test_sorting(self):
+        by_circuit = functools.cmp_to_key(yilgorza.compare)
+        texts = [text for _, text in DRAWN]
+        rising = sorted(texts[::-1], key=by_circuit)
+        rows = [list(row) for _, row in itertools.groupby(rising, key=by_circuit)]
+        self.assertEqual([sorted(row) for row in rows], [sorted(row) for row in RISING])
+        self.assertEqual(max(texts, key=by_circuit), typed("(lines 32)"))
+
+    def test_refusals_of_two_texts(self):
+        def refused(first: bytes, second: bytes) -> tuple:
+            with self.assertRaises(TurnedAway) as caught:
+                yilgorza.compare(first, second)
+            refusal = caught.exception
+            return refusal.number, refusal.line, refusal.text
+
+        for text, number, line in CIRCUIT_REFUSALS:
+            with self.subTest(text[:40]):
+                self.assertEqual(refused(text, GOOD), (number, line, 1))
+                self.assertEqual(refused(GOOD, text), (number, line, 2))
+                # The first text is judged whole before the second is looked at.
+                for other, _, _ in CIRCUIT_REFUSALS:
+                    self.assertEqual(refused(text, other), (number, line, 1))
+
+    def test_the_longest_circuits(self):
+        # 4,096 gates that vanish, and 4,096 that stay.
+        vanish = typed("(lines 32)", *["(not 0)"] * 4096)
+        stay = typed("(lines 32)", *["(cn 30 31)", "(cn 31 30)"] * 2048)
+        self.assertIs(yilgorza.compare(vanish, "(lines 32)\n"), Ordering.EQUAL)
+        self.assertIs(yilgorza.compare(vanish, stay), Ordering.LESS)
+        self.assertIs(yilgorza.compare(stay, stay), Ordering.EQUAL)
+        # The last of 4,096 gates decides, and then that there is none.
+        last = typed("(lines 32)", *stay.decode().splitlines()[1:-1], "(vp 31 30)")
+        self.assertIs(yilgorza.compare(stay, last), Ordering.LESS)
+        sooner = typed("(lines 32)", *stay.decode().splitlines()[1:-1])
+        self.assertIs(yilgorza.compare(stay, sooner), Ordering.GREATER)
 
     def test_eleven_wide_gates(self):
         self.assertTrue(yilgorza.map(typed("(lines 17)", *[WIDE] * 11)).gates)
@@ -105,6 +161,9 @@ class Module(unittest.TestCase):
                     yilgorza.map(text)
                 refusal = caught.exception
                 self.assertEqual((refusal.number, refusal.line), (number, line))
+            for (first, text), (second, other) in zip(DRAWN, DRAWN[1:]):
+                found = yilgorza.compare(text, other)
+                self.assertIs(found, order(first, second))
 
         with ThreadPoolExecutor(8) as pool:
             self.assertEqual(list(pool.map(answers, range(64))), [None] * 64)
@@ -117,6 +176,28 @@ class Programs(unittest.TestCase):
         run = subprocess.run([PROGRAMS / program], input=text, stdout=subprocess.PIPE)
         self.assertEqual(run.returncode, 0)
         return run.stdout
+
+    def compared(self, first: bytes, second: bytes) -> bytes:
+        with tempfile.TemporaryDirectory() as folder:
+            names = [Path(folder) / "first", Path(folder) / "second"]
+            for name, text in zip(names, (first, second)):
+                name.write_bytes(text)
+            run = subprocess.run([PROGRAMS / "compare", *names], stdout=subprocess.PIPE)
+        self.assertEqual(run.returncode, 0)
+        return run.stdout
+
+    def test_compare(self):
+        for (first, text), (second, other) in itertools.product(DRAWN, DRAWN):
+            form = f"({order(first, second).name.lower()})"
+            self.assertEqual(self.compared(text, other), typed(form), (text, other))
+
+    def test_refusals_of_two_texts(self):
+        for text, number, line in CIRCUIT_REFUSALS:
+            with self.subTest(text[:40]):
+                first, second = TurnedAway(number, line, 1), TurnedAway(number, line, 2)
+                self.assertEqual(self.compared(text, GOOD), typed(first.form))
+                self.assertEqual(self.compared(GOOD, text), typed(second.form))
+                self.assertEqual(self.compared(text, b""), typed(first.form))
 
     def test_map_and_quote(self):
         self.assertEqual(self.written("map", TOFFOLI), TOFFOLI_MAPPED)
@@ -142,19 +223,20 @@ class Programs(unittest.TestCase):
                     )
 
 
-class Example(unittest.TestCase):
-    """The program of examples/python."""
+class Examples(unittest.TestCase):
+    """The programs of examples/python."""
 
-    def ran(self, text: str) -> subprocess.CompletedProcess:
-        program = REPOSITORY / "examples/python/example.py"
+    def ran(self, program: str, *texts: str) -> subprocess.CompletedProcess:
+        names = [f"examples/texts/{text}" for text in texts]
         return subprocess.run(
-            [sys.executable, program, REPOSITORY / "examples/texts" / text],
+            [sys.executable, f"examples/python/{program}", *names],
+            cwd=REPOSITORY,
             stdout=subprocess.PIPE,
             stderr=subprocess.PIPE,
         )
 
     def test_a_cascade(self):
-        run = self.ran("toffoli.cascade")
+        run = self.ran("example.py", "toffoli.cascade")
         self.assertEqual((run.returncode, run.stderr), (0, b""))
         self.assertEqual(
             run.stdout,
@@ -162,11 +244,40 @@ class Example(unittest.TestCase):
         )
 
     def test_a_refusal(self):
-        run = self.ran("redrawn.circuit")
+        run = self.ran("example.py", "redrawn.circuit")
         self.assertEqual((run.returncode, run.stdout), (1, b""))
         refusal = TurnedAway(Number.MALFORMED, 2)
-        self.assertTrue(
-            run.stderr.endswith(typed(f"redrawn.circuit: {refusal}")), run.stderr
+        self.assertEqual(
+            run.stderr, typed(f"examples/texts/redrawn.circuit: {refusal}")
+        )
+
+    def test_sorted_circuits(self):
+        ordered, redrawn, toffoli = names = [
+            f"{name}.circuit" for name in ("ordered", "redrawn", "toffoli")
+        ]
+        # The rows that docs/USING.md shows for the command.
+        page = (REPOSITORY / "docs/USING.md").read_text("utf-8")
+        command = "    python3 examples/python/sort.py examples/texts/*.circuit\n\n"
+        shown = page.partition(command)[2].partition("\n\n")[0]
+        rows = typed(*[line[4:] for line in shown.splitlines()])
+        texts = REPOSITORY / "examples/texts"
+        self.assertEqual(sorted(path.name for path in texts.glob("*.circuit")), names)
+        run = self.ran("sort.py", *names)
+        self.assertEqual((run.returncode, run.stdout, run.stderr), (0, rows, b""))
+        self.assertEqual(
+            rows,
+            typed(
+                "   5 gates  examples/texts/toffoli.circuit",
+                "   1 gates  examples/texts/ordered.circuit "
+                "examples/texts/redrawn.circuit",
+            ),
+        )
+        # Whatever their order, and with a text among them that is no circuit.
+        run = self.ran("sort.py", toffoli, ordered, "toffoli.cascade", redrawn)
+        refusal = TurnedAway(Number.MALFORMED, 2)
+        self.assertEqual((run.returncode, run.stdout), (1, rows))
+        self.assertEqual(
+            run.stderr, typed(f"examples/texts/toffoli.cascade: {refusal}")
         )
 
 

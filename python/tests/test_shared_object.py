@@ -11,6 +11,9 @@ from texts import ARCHIVE, REPOSITORY
 
 STUB = Path(__file__).resolve().with_name("stub.c")
 
+# The jobs, and how many texts each takes.
+JOBS = {"map": 1, "reduce": 1, "quote": 1, "compare": 2}
+
 
 class Named(unittest.TestCase):
     def setUp(self):
@@ -32,7 +35,7 @@ class Named(unittest.TestCase):
     def error(self, path: object, text: bytes, job: str) -> str:
         return self.answer(
             path,
-            f"try:\n    yilgorza.{job}({text!r})\n"
+            f"try:\n    yilgorza.{job}(*[{text!r}] * {JOBS[job]})\n"
             "except Exception as error:\n    print(type(error).__name__, error)",
         )
 
@@ -53,7 +56,7 @@ class Named(unittest.TestCase):
         # It is asked for by the first call, and not before.
         imported = self.answer(self.made, "print(yilgorza.Number(3).name)")
         self.assertEqual(imported, "MALFORMED\n")
-        for job in ("map", "reduce", "quote"):
+        for job in JOBS:
             said = self.error(self.made, b"", job)
             self.assertTrue(said.startswith("OSError "), said)
             self.assertIn(str(self.made), said)
@@ -70,11 +73,14 @@ class Named(unittest.TestCase):
 
     def test_one_that_answers_nonsense(self):
         subprocess.run(["gcc", "-shared", "-fPIC", "-o", self.made, STUB], check=True)
-        for job in ("map", "reduce", "quote"):
+        for job in JOBS:
             with self.subTest(job):
+                nonsense = "record 65535 is no gate"
+                if job == "compare":
+                    nonsense = "there is no order 3"
                 self.assertEqual(
                     self.error(self.made, b"", job),
-                    "InternalError yilgorza: record 65535 is no gate\n",
+                    f"InternalError yilgorza: {nonsense}\n",
                 )
                 self.assertEqual(
                     self.error(self.made, b"x", job),

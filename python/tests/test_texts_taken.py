@@ -5,9 +5,20 @@ import unittest
 
 import yilgorza
 from texts import TOFFOLI, TOFFOLI_MAPPED, typed
-from yilgorza import Number, TurnedAway
+from yilgorza import Number, Ordering, TurnedAway
 
-JOBS = (yilgorza.map, yilgorza.reduce, yilgorza.quote)
+CIRCUIT = typed("(lines 2)", "(v 0 1)", "(v 0 1)")
+
+
+def compare_first(text: object) -> Ordering:
+    return yilgorza.compare(text, CIRCUIT)
+
+
+def compare_second(text: object) -> Ordering:
+    return yilgorza.compare(CIRCUIT, text)
+
+
+JOBS = (yilgorza.map, yilgorza.reduce, yilgorza.quote, compare_first, compare_second)
 
 
 class Longer(bytes):
@@ -36,12 +47,14 @@ class Taken(unittest.TestCase):
         for text in (TOFFOLI, TOFFOLI.decode(), bytearray(TOFFOLI)):
             with self.subTest(type(text).__name__):
                 self.mapped(text)
-        circuit = typed("(lines 2)", "(v 0 1)", "(v 0 1)")
-        for text in (circuit, circuit.decode(), bytearray(circuit)):
+        for text in (CIRCUIT, CIRCUIT.decode(), bytearray(CIRCUIT)):
             with self.subTest(type(text).__name__):
                 self.assertEqual(
                     yilgorza.reduce(text).text, typed("(lines 2)", "(cn 0 1)")
                 )
+                self.assertIs(yilgorza.compare(text, "(lines 1)\n"), Ordering.GREATER)
+                self.assertIs(yilgorza.compare("(lines 3)\n", text), Ordering.GREATER)
+                self.assertIs(yilgorza.compare(text, text), Ordering.EQUAL)
 
     def test_a_given_text_is_left_as_it_is(self):
         text = bytearray(TOFFOLI)

@@ -15,8 +15,8 @@ from concurrent.futures import ProcessPoolExecutor
 from dataclasses import FrozenInstanceError
 
 import yilgorza
-from texts import QUOTES, REFUSALS, REPOSITORY, TOFFOLI
-from yilgorza import Kind, Number, TurnedAway, _library
+from texts import CIRCUIT_REFUSALS, QUOTES, REFUSALS, REPOSITORY, TOFFOLI
+from yilgorza import Kind, Number, Ordering, TurnedAway, _library
 
 
 class Refusals(unittest.TestCase):
@@ -45,6 +45,26 @@ class Refusals(unittest.TestCase):
                     f"refusal {number.value}: {number.words}",
                 )
                 self.assertEqual(refusal.form, f"(turned-away {number.value} 7)")
+                self.assertIsNone(refusal.text)
+
+    def test_what_a_refusal_of_several_texts_says(self):
+        for text, place in ((1, "first"), (2, "second"), (3, "third")):
+            refusal = TurnedAway(3, 7, text)
+            self.assertEqual((refusal.line, refusal.text), (7, text))
+            self.assertEqual(refusal.form, f"(turned-away 3 7 {text})")
+            self.assertEqual(
+                str(refusal),
+                f"refusal 3 at line 7 of the {place} text: {Number(3).words}",
+            )
+            self.assertEqual(
+                str(TurnedAway(1, 0, text)),
+                f"refusal 1 at the {place} text: {Number(1).words}",
+            )
+        # Some numbers are about no one of the texts.
+        refusal = TurnedAway(10, 0, 0)
+        self.assertEqual(refusal.text, 0)
+        self.assertEqual(refusal.form, "(turned-away 10 0 0)")
+        self.assertEqual(str(refusal), f"refusal 10: {Number(10).words}")
 
     def test_what_a_job_says(self):
         with self.assertRaises(TurnedAway) as caught:
@@ -53,10 +73,20 @@ class Refusals(unittest.TestCase):
             str(caught.exception),
             "refusal 5 at line 2 of the text: a gate is controlled by its own target",
         )
+        with self.assertRaises(TurnedAway) as caught:
+            yilgorza.compare("(lines 3)\n", "(lines 3)\n(cn 2 2)\n")
+        self.assertEqual(
+            str(caught.exception),
+            "refusal 5 at line 2 of the second text: "
+            "a gate is controlled by its own target",
+        )
 
     def test_every_number_is_met(self):
         met = {number for _, number, _ in REFUSALS}
         self.assertEqual(set(Number) - met, {Number.SHORT_LIST, Number.SHORT_ANSWER})
+        # Of a circuit's lines only these rules can fail.
+        met = {number for _, number, _ in CIRCUIT_REFUSALS}
+        self.assertEqual({number.value for number in met}, {1, 3, 4, 5, 9})
 
     def test_a_number_is_shown_as_a_number(self):
         self.assertEqual(
@@ -77,24 +107,46 @@ class Refusals(unittest.TestCase):
         self.assertEqual(len({refusal, refusal, TurnedAway(8, 2)}), 2)
 
 
+class Orderings(unittest.TestCase):
+    def test_the_order_of_numbers(self):
+        self.assertEqual([found.value for found in Ordering], [-1, 0, 1])
+        names = [found.name for found in Ordering]
+        self.assertEqual(names, ["LESS", "EQUAL", "GREATER"])
+        self.assertEqual(yilgorza.compare("(lines 1)\n", "(lines 2)\n"), -1)
+
+    def test_shown_as_a_number(self):
+        self.assertEqual((str(Ordering.LESS), f"{Ordering.LESS}"), ("-1", "-1"))
+        self.assertEqual(repr(Ordering.LESS), "<Ordering.LESS: -1>")
+
+
 class Pickled(unittest.TestCase):
-    def same(self, made: TurnedAway, number: int, line: int) -> None:
+    def same(
+        self,
+        made: TurnedAway,
+        number: int,
+        line: int,
+        text: typing.Optional[int] = None,
+    ) -> None:
         self.assertIs(type(made), TurnedAway)
         self.assertIs(made.number, Number(number))
-        self.assertEqual(made.line, line)
-        self.assertEqual(str(made), str(TurnedAway(number, line)))
+        self.assertEqual((made.line, made.text), (line, text))
+        self.assertEqual(str(made), str(TurnedAway(number, line, text)))
 
     def test_refusals(self):
         for number in Number:
-            refusal = TurnedAway(number, 3)
-            for protocol in range(pickle.HIGHEST_PROTOCOL + 1):
-                self.same(pickle.loads(pickle.dumps(refusal, protocol)), number, 3)
-            self.same(copy.copy(refusal), number, 3)
-            self.same(copy.deepcopy(refusal), number, 3)
+            for text in (None, 0, 2):
+                refusal = TurnedAway(number, 3, text)
+                for protocol in range(pickle.HIGHEST_PROTOCOL + 1):
+                    made = pickle.loads(pickle.dumps(refusal, protocol))
+                    self.same(made, number, 3, text)
+                self.same(copy.copy(refusal), number, 3, text)
+                self.same(copy.deepcopy(refusal), number, 3, text)
 
     def test_results(self):
         for made in (yilgorza.map(TOFFOLI), yilgorza.quote(TOFFOLI)):
             self.assertEqual(pickle.loads(pickle.dumps(made)), made)
+        found = yilgorza.compare("(lines 1)\n", "(lines 1)\n")
+        self.assertIs(pickle.loads(pickle.dumps(found)), Ordering.EQUAL)
 
     def test_process_pool(self):
         context = multiprocessing.get_context("spawn")
@@ -106,6 +158,9 @@ class Pickled(unittest.TestCase):
             ]
             for future, number, line in refused:
                 self.same(future.exception(timeout=60), number, line)
+            texts = "(lines 1)\n", "(lines 1)\n(not 1)\n"
+            future = pool.submit(yilgorza.compare, *texts)
+            self.same(future.exception(timeout=60), 4, 2, 2)
             # The pool lives on.
             quotes = pool.map(yilgorza.quote, [text for text, _ in QUOTES], timeout=60)
             self.assertEqual(
@@ -127,7 +182,7 @@ class Names(unittest.TestCase):
             self.assertIs(names[name], getattr(yilgorza, name))
 
     def test_jobs_by_the_name_of_the_module(self):
-        for name in ("map", "reduce", "quote"):
+        for name in ("map", "reduce", "quote", "compare"):
             self.assertEqual(getattr(yilgorza, name).__module__, "yilgorza")
 
     def test_version(self):
@@ -150,13 +205,18 @@ class Names(unittest.TestCase):
         for name in ("map", "reduce", "quote"):
             hints = typing.get_type_hints(getattr(yilgorza, name))
             self.assertEqual(set(hints), {"text", "return"})
+        hints = typing.get_type_hints(yilgorza.compare)
+        self.assertEqual(set(hints), {"first", "second", "return"})
+        self.assertIs(hints["return"], Ordering)
         self.assertEqual(
             typing.get_type_hints(yilgorza.Gate),
             {"kind": Kind, "control": typing.Optional[int], "target": int},
         )
         typing.get_type_hints(yilgorza.Circuit)
         typing.get_type_hints(yilgorza.Quote)
+        typing.get_type_hints(TurnedAway.__init__)
         typing.get_type_hints(_library.run)
+        typing.get_type_hints(_library.run_several)
 
     def test_all_functions_are_annotated(self):
         paths = sorted((REPOSITORY / "python/src/yilgorza").glob("*.py"))
@@ -179,6 +239,8 @@ class Names(unittest.TestCase):
         names = dict(re.findall(r"\bYILGORZA_(\w+)(?: = | )(\d+)", header))
         for member in [*Number, *Kind]:
             self.assertEqual(names[member.name], str(member.value))
+        for found in Ordering:
+            self.assertEqual(names[found.name], str(found.value + 1))
         self.assertEqual(names["LIST_RECORDS"], str(_library.LIST_RECORDS))
         self.assertEqual(names["ANSWER_BYTES"], str(_library.ANSWER_BYTES))
         for name in _library._FUNCTIONS:
@@ -187,11 +249,11 @@ class Names(unittest.TestCase):
 
 class Documentation(unittest.TestCase):
     def test_examples_of_the_module(self):
-        self.assertEqual(doctest.testmod(yilgorza), (0, 2))
+        self.assertEqual(doctest.testmod(yilgorza), (0, 3))
 
     def test_examples_of_the_page(self):
         page = str(REPOSITORY / "python/README.md")
-        self.assertEqual(doctest.testfile(page, module_relative=False), (0, 7))
+        self.assertEqual(doctest.testfile(page, module_relative=False), (0, 18))
 
 
 if __name__ == "__main__":

@@ -63,6 +63,51 @@ REDUCTIONS = [
     ),
 ]
 
+# Circuits in rising order, each in all the ways in which it is drawn here: by the
+# number of lines, then by the reduced lists, which document 01 gives or which are the
+# only ones with so few gates.
+RISING = [
+    [typed("(lines 1)")],
+    [typed("(lines 1)", "(not 0)")],
+    [typed("(lines 2)"), typed("(lines 2)", "(v 0 1)", "(vp 0 1)")],
+    [typed("(lines 2)", "(not 0)")],
+    [typed("(lines 2)", "(not 0)", "(cn 0 1)")],
+    # One gate more than the last, and it is the `not 0` that fills a list.
+    [typed("(lines 2)", "(not 0)", "(cn 0 1)", "(not 0)")],
+    [
+        typed("(lines 2)", "(not 1)", "(cn 0 1)"),
+        typed("(lines 2)", "(cn 0 1)", "(not 1)"),
+    ],
+    [typed("(lines 2)", "(cn 0 1)"), typed("(lines 2)", "(v 0 1)", "(v 0 1)")],
+    [typed("(lines 2)", "(cn 0 1)", "(cn 1 0)")],
+    [typed("(lines 2)", "(vp 0 1)"), typed("(lines 2)", "(cn 0 1)", "(v 0 1)")],
+    [typed("(lines 3)")],
+    [typed("(lines 3)", "(cn 0 1)", "(cn 1 2)", "(cn 0 1)")],
+    [
+        TOFFOLI_MAPPED,
+        typed("(lines 3)", "(v 1 2)", "(cn 0 1)", "(vp 1 2)", "(cn 0 1)", "(v 0 2)"),
+    ],
+    [
+        typed("(lines 3)", "(cn 1 2)"),
+        typed("(lines 3)", "(cn 0 2)", "(cn 1 2)", "(cn 0 2)"),
+        typed("(lines 3)", "(v 1 2)", "(v 1 2)"),
+    ],
+    [typed("(lines 32)")],
+]
+
+# Circuits that are turned away, with number and line: every number that a circuit
+# can get where the lists are long enough.
+CIRCUIT_REFUSALS = [
+    (b"(" * 60001, Number.OVERLONG, 0),
+    (b"", Number.MALFORMED, 1),
+    (TOFFOLI, Number.MALFORMED, 2),
+    (b"(lines 2)\n(cn 0 1)", Number.MALFORMED, 2),
+    (typed("(lines 0)"), Number.NO_SUCH_LINE, 1),
+    (typed("(lines 2)", "(cn 0 1)", "(not 2)"), Number.NO_SUCH_LINE, 3),
+    (typed("(lines 2)", "(v 1 1)"), Number.CROSSED, 2),
+    (typed("(lines 2)", *["(not 0)"] * 4097), Number.TOO_MANY, 4098),
+]
+
 # Cascades that are turned away, with number and line: every number but 2 and 10,
 # which no text gets, as the module and the programs lend enough.
 REFUSALS = [

@@ -1,6 +1,8 @@
 /* The harness of the fuzzer (libFuzzer with AddressSanitizer) on the static
-   library: each input is given to the three jobs on lent areas of sizes that
-   the input chooses, and what holds of every answer is checked.
+   library: each input is given to the jobs, over one text and over two, on lent
+   areas of sizes that the input chooses, and what holds of every answer is
+   checked. What reduce gives for either of two texts says all that compare has to
+   give for both.
 
    Memory. The archive is plain machine code, in which AddressSanitizer checks
    nothing but the memory functions of the C library. So the areas stand
@@ -20,14 +22,18 @@
      addresses of the blocks come from a disassembly (see blocks.awk), in the
      file that the environment variable FUZZ_BLOCKS names.
    - the outcomes: number, line and count (its number of binary digits) of each
-     job.
+     job, for each text of compare.
    The harness itself is compiled without coverage.
 
-   An input is four bytes of choices and the text:
-   byte 0: the length of the list; byte 1 and 2: the length of the answer area;
-   byte 3: at which end of the areas the page stands, and whether the last line
-   of the text is repeated up to a limit. With `0000` it is a list of 4,096
-   records, an ample answer area and the text as it stands. */
+   An input is four bytes of choices, a text and perhaps a second text. The first
+   `%`, which no text in form has, stands between them; without one the second
+   text is empty. The jobs over one text get the first.
+   byte 0: the length of the list (low four bits) and of the second text's list
+   (high four bits); byte 1 and 2: the length of the answer area; byte 3: at which
+   end of the areas the page stands (bit 0), and whether the last line of the text
+   (bits 1 to 3) and of the second text (bits 4 to 6) is repeated up to a limit.
+   With `0000` it is lists of 4,096 records, an ample answer area and the texts as
+   they stand. */
 
 #define _GNU_SOURCE
 #include "../../include/yilgorza.h"
@@ -41,10 +47,11 @@
 #include <unistd.h>
 
 enum { LONGEST_TEXT = 60000, SHORTEST_LIST = 4096, AMPLE = 50000, BESIDE = 64 };
-enum job { MAP, REDUCE, QUOTE };
-static const char *const job_names[] = { "map", "reduce", "quote" };
+enum job { MAP, REDUCE, QUOTE };   /* over one text */
+enum { COMPARE = QUOTE + 1 };      /* over two */
+static const char *const job_names[] = { "map", "reduce", "quote", "compare" };
 
-static void fail(enum job job, const char *what)
+static void fail(unsigned job, const char *what)
 {
     fprintf(stderr, "fuzz: FAILED: %s: %s\n", job_names[job], what);
     abort();
@@ -59,12 +66,13 @@ __attribute__((section("__libfuzzer_extra_counters")))
 #endif
 static volatile uint8_t counters[MOST_BLOCKS + OUTCOMES];
 
-static void count_outcome(enum job job, const uint64_t *outcome)
+/* The refusals of a job over several texts are counted for each text. */
+static void count_outcome(unsigned job, uint64_t number, uint64_t line, uint64_t text, uint64_t count)
 {
-    unsigned line = outcome[1] < 24 ? (unsigned)outcome[1] : 24;
-    unsigned digits = outcome[2] ? 64 - (unsigned)__builtin_clzll(outcome[2]) : 0;
-    unsigned feature = outcome[0] ? 64 + (unsigned)outcome[0] * 25 + line : digits;
-    counters[MOST_BLOCKS + job * 512 + feature % 512] = 1;
+    unsigned short_line = line < 24 ? (unsigned)line : 24;
+    unsigned digits = count ? 64 - (unsigned)__builtin_clzll(count) : 0;
+    unsigned feature = number ? 64 + (unsigned)number * 25 + short_line : digits;
+    counters[MOST_BLOCKS + (job + (text == 2)) * 512 + feature % 512] = 1;
 }
 
 #ifndef REPLAY
@@ -187,7 +195,7 @@ static int beside_unchanged(const struct area *area, uint8_t junk)
 #else
 
 /* Rooms are mapped once, with a page without access at both ends. */
-enum { ROOMS = 3, ROOM = 1 << 17 };
+enum { ROOMS = 4, ROOM = 1 << 17 };
 static uint8_t *rooms[ROOMS];
 static int rooms_lent;
 
@@ -359,7 +367,7 @@ static void run(enum job job, const uint8_t *text, size_t text_length, size_t li
     take_back(&answer_area);
     take_back(&list_area);
     take_back(&text_area);
-    count_outcome(job, outcome + 1);
+    count_outcome(job, number, line, 0, written);
 }
 
 static int same_list(const struct answer *a, const struct answer *b)
@@ -367,18 +375,120 @@ static int same_list(const struct answer *a, const struct answer *b)
     return a->gates == b->gates && !memcmp(a->list, b->list, a->gates * sizeof(uint16_t));
 }
 
-/* The text of an input, its last line repeated where the input says so. */
-static const uint8_t *text_of(const uint8_t *data, size_t *length, unsigned choice, unsigned detail)
+/* ---- Two texts ---- */
+
+/* A text of a pair, the length of its list, and what reduce gives for it. */
+struct side {
+    const uint8_t *text;
+    size_t length, list_length;
+    struct answer reduced;
+};
+
+/* What compare returns. */
+struct verdict {
+    uint64_t number, line, text, count;
+};
+
+/* Accepted circuits by number of lines, then by their reduced lists, a list that
+   ends sooner first. The order of the records is that of the gates. */
+static uint64_t order_of(const struct side *first, const struct side *second)
 {
-    static uint8_t text[LONGEST_TEXT + 8];
+    const struct answer *a = &first->reduced, *b = &second->reduced;
+    unsigned lines_a = lines_of(first->text), lines_b = lines_of(second->text);
+    if (lines_a != lines_b)
+        return lines_a < lines_b ? YILGORZA_LESS : YILGORZA_GREATER;
+    for (size_t i = 0; i < a->gates && i < b->gates; i++)
+        if (a->list[i] != b->list[i])
+            return a->list[i] < b->list[i] ? YILGORZA_LESS : YILGORZA_GREATER;
+    return a->gates < b->gates ? YILGORZA_LESS : a->gates > b->gates ? YILGORZA_GREATER : YILGORZA_EQUAL;
+}
+
+/* The refusal of the first text, else that of the second, else the order. */
+static struct verdict due(const struct side *first, const struct side *second)
+{
+    const struct answer *a = &first->reduced, *b = &second->reduced;
+    if (a->number)
+        return (struct verdict){ a->number, a->line, 1, 0 };
+    if (b->number)
+        return (struct verdict){ b->number, b->line, 2, 0 };
+    return (struct verdict){ 0, 0, 0, order_of(first, second) };
+}
+
+/* Checks the list of one side: unchanged with 1 and 2, its own reduced list on
+   success, and in every other record `not 0`. */
+static void check_list(const struct side *side, uint64_t number, const struct area *area, uint8_t junk)
+{
+    const uint16_t *list = (const uint16_t *)area->bytes;
+    uint16_t rest = number == 1 || number == 2 ? (uint16_t)(junk << 8 | junk) : YILGORZA_NOT_0;
+    size_t gates = number ? 0 : side->reduced.gates;
+    if (memcmp(list, side->reduced.list, gates * sizeof *list))
+        fail(COMPARE, "a list isn't the reduced list of its text");
+    if (!all_records(list + gates, side->list_length - gates, rest))
+        fail(COMPARE, "the records after a list");
+    if (!beside_unchanged(area, junk))
+        fail(COMPARE, "bytes beside a list were written");
+}
+
+static void check_text_area(const struct side *side, const struct area *area, uint8_t junk)
+{
+    if (side->length && memcmp(area->bytes, side->text, side->length))
+        fail(COMPARE, "a text was changed");
+    if (!beside_unchanged(area, junk))
+        fail(COMPARE, "bytes beside a text were written");
+}
+
+static struct verdict compare(const struct side *first, const struct side *second, int at_front, uint8_t junk)
+{
+    struct area texts[2], lists[2];
+    const struct side *sides[2] = { first, second };
+    /* The list of the second text has junk of its own. */
+    uint8_t junks[2] = { junk, (uint8_t)(junk ^ 1) };
+    uint64_t outcome[6] = { 99, 99, 99, 99, 99, 99 };
+    for (int i = 0; i < 2; i++) {
+        lend(&texts[i], sides[i]->length, at_front, junk);
+        lend(&lists[i], sides[i]->list_length * sizeof(uint16_t), at_front, junks[i]);
+        if (sides[i]->length)
+            memcpy(texts[i].bytes, sides[i]->text, sides[i]->length);
+    }
+    yilgorza_compare(texts[0].bytes, first->length, (uint16_t *)lists[0].bytes, first->list_length,
+                     texts[1].bytes, second->length, (uint16_t *)lists[1].bytes, second->list_length, outcome + 1);
+    struct verdict got = { outcome[1], outcome[2], outcome[3], outcome[4] }, expected = due(first, second);
+    if (outcome[0] != 99 || outcome[5] != 99)
+        fail(COMPARE, "a word beside the outcome was written");
+    if (got.number > 9 || (got.number >= 6 && got.number <= 8))
+        fail(COMPARE, "no such number");
+    if (got.text > 2 || (got.number == 0) != (got.text == 0))
+        fail(COMPARE, "the text number");
+    if (got.count > YILGORZA_GREATER || (got.number && got.count))
+        fail(COMPARE, "the count");
+    if (memcmp(&got, &expected, sizeof got))
+        fail(COMPARE, "reduce says otherwise");
+    for (int i = 1; i >= 0; i--) {
+        check_list(sides[i], got.number, &lists[i], junks[i]);
+        check_text_area(sides[i], &texts[i], junk);
+        take_back(&lists[i]);
+        take_back(&texts[i]);
+    }
+    count_outcome(COMPARE, got.number, got.line, got.text, got.count);
+    return got;
+}
+
+/* ---- Inputs ---- */
+
+enum { LONGEST_INPUT = LONGEST_TEXT + 8 };
+
+/* A text of an input, its last line repeated, in the room given, where the input
+   says so. */
+static const uint8_t *text_of(uint8_t *text, const uint8_t *data, size_t *length, unsigned choice, unsigned detail)
+{
     size_t limit, times = 0;
     switch (choice) {
     case 5:
-        limit = sizeof text;
+        limit = LONGEST_INPUT;
         times = 300;
         break;
     case 6:
-        limit = sizeof text;
+        limit = LONGEST_INPUT;
         times = 4100;
         break;
     case 7:
@@ -404,32 +514,22 @@ static const uint8_t *text_of(const uint8_t *data, size_t *length, unsigned choi
     return text;
 }
 
-int LLVMFuzzerTestOneInput(const uint8_t *data, size_t size)
+static void jobs_over_one_text(const uint8_t *choices, const uint8_t *text, size_t length, size_t list_length,
+                               int at_front, uint8_t junk)
 {
-    static const size_t list_lengths[] = { 4096, 4096, 4096, 4096, 4096, 4096, 4096, 4096,
-                                           4096, 4095, 4097, 5000, 4500, 4094, 1, 0 };
     static struct answer answers[3], again;
-    if (size < 4)
-        return 0;
-    size_t length = size - 4;
-    const uint8_t *text = text_of(data + 4, &length, data[3] >> 1 & 7, data[2]);
-    if (length > LONGEST_TEXT + 8)
-        return 0;
-    size_t list_length = list_lengths[data[0] & 15];
-    int at_front = data[3] & 1;
-    uint8_t junk = (uint8_t)(data[2] | 0x20);
     for (enum job job = MAP; job <= QUOTE; job++) {
-        size_t answer_length = job == QUOTE ? 0 : (data[1] & 3) == 3 ? data[2] : AMPLE;
+        size_t answer_length = job == QUOTE ? 0 : (choices[1] & 3) == 3 ? choices[2] : AMPLE;
         run(job, text, length, list_length, answer_length, at_front, junk, &answers[job]);
         if (answers[job].number || job == QUOTE)
             continue;
         /* Again with the answer area fitting exactly or one short. */
         size_t written = answers[job].count;
-        if ((data[1] & 3) == 1) {
+        if ((choices[1] & 3) == 1) {
             run(job, text, length, list_length, written, at_front, junk, &again);
             if (again.number || again.count != written || !same_list(&again, &answers[job]))
                 fail(job, "an answer area that fits");
-        } else if ((data[1] & 3) == 2) {
+        } else if ((choices[1] & 3) == 2) {
             run(job, text, length, list_length, written - 1, at_front, junk, &again);
             if (again.number != 10)
                 fail(job, "an answer area one short");
@@ -447,6 +547,49 @@ int LLVMFuzzerTestOneInput(const uint8_t *data, size_t size)
         fail(QUOTE, "map refuses otherwise");
     if (answers[MAP].number == 0 && !same_list(&answers[MAP], &answers[QUOTE]))
         fail(QUOTE, "map gives another list");
+}
+
+/* Two texts in both orders, and each with itself. */
+static void job_over_two_texts(struct side *sides, int at_front, uint8_t junk)
+{
+    for (int i = 0; i < 2; i++)
+        run(REDUCE, sides[i].text, sides[i].length, sides[i].list_length, AMPLE, at_front, junk, &sides[i].reduced);
+    struct verdict there = compare(&sides[0], &sides[1], at_front, junk);
+    struct verdict back = compare(&sides[1], &sides[0], at_front, junk);
+    if ((there.number == 0) != (back.number == 0))
+        fail(COMPARE, "refused in one order only");
+    if (there.number == 0 && there.count + back.count != YILGORZA_LESS + YILGORZA_GREATER)
+        fail(COMPARE, "less and greater don't change places with the texts");
+    for (int i = 0; i < 2; i++) {
+        struct verdict itself = compare(&sides[i], &sides[i], at_front, junk);
+        if (itself.number == 0 && itself.count != YILGORZA_EQUAL)
+            fail(COMPARE, "a text isn't equal to itself");
+    }
+}
+
+int LLVMFuzzerTestOneInput(const uint8_t *data, size_t size)
+{
+    static const size_t list_lengths[] = { 4096, 4096, 4096, 4096, 4096, 4096, 4096, 4096,
+                                           4096, 4095, 4097, 5000, 4500, 4094, 1, 0 };
+    static uint8_t repeated[2][LONGEST_INPUT];
+    static struct side sides[2];
+    if (size < 4)
+        return 0;
+    const uint8_t *first = data + 4, *end = data + size;
+    const uint8_t *cut = memchr(first, '%', (size_t)(end - first));
+    const uint8_t *second = cut ? cut + 1 : end;
+    sides[0].length = (size_t)((cut ? cut : end) - first);
+    sides[0].text = text_of(repeated[0], first, &sides[0].length, data[3] >> 1 & 7, data[2]);
+    sides[0].list_length = list_lengths[data[0] & 15];
+    sides[1].length = (size_t)(end - second);
+    sides[1].text = text_of(repeated[1], second, &sides[1].length, data[3] >> 4 & 7, data[2]);
+    sides[1].list_length = list_lengths[data[0] >> 4];
+    if (sides[0].length > LONGEST_INPUT || sides[1].length > LONGEST_INPUT)
+        return 0;
+    int at_front = data[3] & 1;
+    uint8_t junk = (uint8_t)(data[2] | 0x20);
+    jobs_over_one_text(data, sides[0].text, sides[0].length, sides[0].list_length, at_front, junk);
+    job_over_two_texts(sides, at_front, junk);
     return 0;
 }
 

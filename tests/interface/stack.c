@@ -1,7 +1,9 @@
-/* How much stack a call takes: each function runs, on each text, on a stack of its
-   own of 64 KiB between two pages that may not be touched. The stack is painted
-   before the call; the lowest byte that has changed after it is as far as the call
-   came. It is painted twice, in two colours, since a call may write one of them. */
+/* How much stack a call takes: each function runs, on each text or each pair of
+   texts, on a stack of its own between two pages that may not be touched. The stack is
+   painted before the call; the lowest byte that has changed after it is as far as the
+   call came. It is painted twice, in two colours, since a call may write one of them.
+   The stack has twice the 64 KiB that the header states, so that a call that takes
+   more of it is measured too. */
 
 #include <sys/mman.h>
 #include <ucontext.h>
@@ -9,26 +11,35 @@
 
 #include "texts.h"
 
-enum { STACK = 64 * 1024 };
+enum { STATED = 64 * 1024, STACK = 2 * STATED };
 
-static uint16_t list[YILGORZA_LIST_RECORDS];
+/* The functions: the jobs over one text, and these. */
+enum { COMPARE = JOBS, GATE, FUNCTIONS };
+
+static const char *const names[] = {"map", "reduce", "quote", "compare", "gate"};
+
+static uint16_t list[YILGORZA_LIST_RECORDS], second_list[YILGORZA_LIST_RECORDS];
 static uint8_t answer[YILGORZA_ANSWER_BYTES];
-static uint64_t outcome[3];
+static uint64_t outcome[4];
 
 static uint8_t *stack;
 static ucontext_t here, there;
 
-/* What runs there; a job past the last one is the reading of a record. */
-static enum job job;
-static const struct text *read_text;
-static size_t list_len, answer_len;
+/* What runs there. */
+static int function;
+static const struct text *read_text, *second_text;
+static size_t list_len, second_list_len, answer_len;
 
 static void call(void) {
     uint8_t gate[3];
-    if (job == JOBS)
+    if (function == GATE)
         yilgorza_gate(4223, gate);
+    else if (function == COMPARE)
+        yilgorza_compare(read_text->bytes, read_text->length, list, list_len,
+                         second_text->bytes, second_text->length, second_list,
+                         second_list_len, outcome);
     else
-        do_job(job, read_text->bytes, read_text->length, list, list_len, answer,
+        do_job(function, read_text->bytes, read_text->length, list, list_len, answer,
                answer_len, outcome);
 }
 
@@ -57,26 +68,49 @@ static size_t used(void) {
     return most;
 }
 
+static size_t larger(size_t a, size_t b) { return a > b ? a : b; }
+
 /* The most of a job over all texts, and the refusals that are about what is lent. */
 static size_t most_of_job(void) {
-    size_t most = 0, u;
+    size_t most = 0;
     for (int i = 0; i < TEXTS; i++) {
         read_text = &texts[i];
         list_len = YILGORZA_LIST_RECORDS;
         answer_len = YILGORZA_ANSWER_BYTES;
-        if ((u = used()) > most)
-            most = u;
-        if (memcmp(outcome, expected(job, read_text), 2 * sizeof *outcome)) {
+        most = larger(most, used());
+        if (memcmp(outcome, expected(function, read_text), 2 * sizeof *outcome)) {
             verdict(0, read_text->name);
             return 0;
         }
         list_len--;
-        if ((u = used()) > most)
-            most = u;
+        most = larger(most, used());
         list_len++;
         answer_len = 0;
-        if ((u = used()) > most)
-            most = u;
+        most = larger(most, used());
+    }
+    return most;
+}
+
+/* The most of compare over all pairs of texts, with lists that are long enough, and
+   with either of them too short. */
+static size_t most_of_compare(void) {
+    size_t most = 0;
+    for (int i = 0; i < TEXTS * TEXTS; i++) {
+        uint64_t numbers[4];
+        read_text = &texts[i / TEXTS];
+        second_text = &texts[i % TEXTS];
+        list_len = second_list_len = YILGORZA_LIST_RECORDS;
+        most = larger(most, used());
+        compared(read_text, second_text, numbers);
+        if (memcmp(outcome, numbers, sizeof outcome)) {
+            verdict(0, read_text->name);
+            return 0;
+        }
+        list_len--;
+        most = larger(most, used());
+        list_len++;
+        second_list_len--;
+        most = larger(most, used());
     }
     return most;
 }
@@ -92,11 +126,13 @@ int main(void) {
     }
     stack = area + page;
     make_texts();
-    for (job = MAP; job <= JOBS; job++) {
-        most = job == JOBS ? used() : most_of_job();
+    for (function = 0; function < FUNCTIONS; function++) {
+        most = function == GATE      ? used()
+               : function == COMPARE ? most_of_compare()
+                                     : most_of_job();
         snprintf(name, sizeof name, "%s takes at most %zu bytes of stack",
-                 job == JOBS ? "gate" : job_names[job], most);
-        verdict(0 < most && most < STACK, name);
+                 names[function], most);
+        verdict(0 < most && most < STATED, name);
     }
     return counts();
 }

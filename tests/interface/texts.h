@@ -10,15 +10,19 @@
 
 #include "yilgorza.h"
 
-/* A text, and the number and the line with which each job answers it. */
+/* A text, and the number and the line with which each job over one text answers it.
+   A circuit that is accepted also has its place in the order of compare, the same
+   for two that are one circuit, and the number of gates of its reduced list. */
 struct text {
     const char *name;
     uint8_t bytes[YILGORZA_TEXT_BYTES + 1];
     size_t length;
     uint64_t mapped[2], reduced[2];
+    int place;
+    size_t gates;
 };
 
-enum { TEXTS = 12 };
+enum { TEXTS = 22 };
 static struct text texts[TEXTS];
 
 static void add(struct text *t, const char *words) {
@@ -42,7 +46,14 @@ static struct text *text(int i, const char *name, int mapped, int mapped_line,
     return t;
 }
 
-/* The longest work of each job, and every refusal of a text. */
+static struct text *circuit(int i, const char *name, int place, size_t gates) {
+    struct text *t = text(i, name, 3, 2, 0, 0);
+    t->place = place;
+    t->gates = gates;
+    return t;
+}
+
+/* The longest work of each job, every refusal of a text, and circuits to compare. */
 static void make_texts(void) {
     static const char wide[] = "(mct (0 1 2 3 4 5 6 7 8 9 10 11 12 13 14) 15)\n";
     struct text *t;
@@ -61,12 +72,14 @@ static void make_texts(void) {
     for (i = 0; i < 256; i++)
         add(t, "(mct (27 28 29 30) 31)\n");
     /* No two neighbours pass or merge, so nothing gets shorter. */
-    t = text(3, "4,096 gates that stay", 3, 2, 0, 0);
+    t = circuit(3, "4,096 gates that stay", 9, 4096);
     add(t, "(lines 32)\n");
     for (i = 0; i < 4096; i++)
         add(t, i % 2 ? "(vp 31 30)\n" : "(vp 30 31)\n");
-    /* Each of the last gates passes all others of its half. */
-    t = text(4, "4,096 gates, half of which travel", 3, 2, 0, 0);
+    /* Each of the last gates passes all others, and four of a kind vanish. Of the
+       others none passes so far that it meets its like. The list begins with
+       cn 30 31, which comes before vp 30 31. */
+    t = circuit(4, "4,096 gates, half of which travel", 8, 2048);
     add(t, "(lines 32)\n");
     for (i = 0; i < 512; i++)
         add(t, "(cn 30 31)\n(cn 31 30)\n(v 30 5)\n(v 6 30)\n");
@@ -85,9 +98,29 @@ static void make_texts(void) {
         "(lines 2)\n(mct (1) 1)\n");
     add(text(10, "controls that fall", 6, 2, 3, 2), "(lines 3)\n(mct (1 0) 2)\n");
     add(text(11, "no spare line", 8, 2, 3, 2), "(lines 4)\n(mct (0 1 2) 3)\n");
+    add(text(12, "a gate that is its own control", 3, 2, 5, 2),
+        "(lines 2)\n(cn 1 1)\n");
+    add(text(13, "a gate on no line of the circuit", 3, 2, 4, 3),
+        "(lines 2)\n(cn 0 1)\n(not 2)\n");
+    t = circuit(14, "no gates on one line", 1, 0);
+    t->mapped[0] = t->mapped[1] = 0;
+    add(t, "(lines 1)\n");
+    t = circuit(15, "no gates on three lines", 2, 0);
+    t->mapped[0] = t->mapped[1] = 0;
+    add(t, "(lines 3)\n");
+    /* Each list goes on where the one before ends, the first and the third time
+       with the gate of the records that fill a list. */
+    add(circuit(16, "not 0", 3, 1), "(lines 3)\n(not 0)\n");
+    add(circuit(17, "not 0, cn 0 1", 4, 2), "(lines 3)\n(not 0)\n(cn 0 1)\n");
+    add(circuit(18, "not 0, cn 0 1, not 0", 5, 3),
+        "(lines 3)\n(not 0)\n(cn 0 1)\n(not 0)\n");
+    add(circuit(19, "cn 1 2", 6, 1), "(lines 3)\n(cn 1 2)\n");
+    add(circuit(20, "cn 1 2, drawn with three gates", 6, 1),
+        "(lines 3)\n(cn 0 2)\n(cn 1 2)\n(cn 0 2)\n");
+    add(circuit(21, "cn 1 2 on four lines", 7, 1), "(lines 4)\n(cn 1 2)\n");
 }
 
-/* The jobs with one signature; quote writes no answer. */
+/* The jobs over one text with one signature; quote writes no answer. */
 enum job { MAP, REDUCE, QUOTE, JOBS };
 
 static const char *const job_names[] = {"map", "reduce", "quote"};
@@ -106,6 +139,26 @@ static void do_job(enum job job, const uint8_t *text, size_t text_len,
 /* The number and the line that the text is to get from the job. */
 static const uint64_t *expected(enum job job, const struct text *t) {
     return job == REDUCE ? t->reduced : t->mapped;
+}
+
+/* The order of two circuits by their places. */
+static int order(const struct text *first, const struct text *second) {
+    if (first->place == second->place)
+        return YILGORZA_EQUAL;
+    return first->place < second->place ? YILGORZA_LESS : YILGORZA_GREATER;
+}
+
+/* The four numbers that two texts are to get from compare, with lists that are long
+   enough: the refusal that reduce gives to the first, else the one that it gives to
+   the second, else their order. */
+static void compared(const struct text *first, const struct text *second,
+                     uint64_t *numbers) {
+    int text = first->reduced[0] ? 1 : second->reduced[0] ? 2 : 0;
+    const struct text *refused = text == 1 ? first : second;
+    numbers[YILGORZA_SEVERAL_NUMBER] = text ? refused->reduced[0] : 0;
+    numbers[YILGORZA_SEVERAL_LINE] = text ? refused->reduced[1] : 0;
+    numbers[YILGORZA_SEVERAL_TEXT] = text;
+    numbers[YILGORZA_SEVERAL_COUNT] = text ? 0 : order(first, second);
 }
 
 static int passed, failed;

@@ -1,26 +1,52 @@
 /* Two threads do the same jobs on the same texts at the same time, in different
-   order, each with a list and an answer area of its own; every answer is held to the
+   order, each with lists and an answer area of its own; every answer is held to the
    one that was given before, with one thread. */
 
 #include <pthread.h>
 
 #include "texts.h"
 
-enum { THREADS = 2, ROUNDS = 60 };
+/* The jobs over one text, and compare of a text with the next. */
+enum { COMPARE = JOBS, ALL_JOBS };
+
+enum { THREADS = 2, ROUNDS = 60, CALLS = ALL_JOBS * TEXTS };
 
 struct lent {
-    uint16_t list[YILGORZA_LIST_RECORDS];
+    uint16_t list[YILGORZA_LIST_RECORDS], second_list[YILGORZA_LIST_RECORDS];
     uint8_t answer[YILGORZA_ANSWER_BYTES];
-    uint64_t outcome[3];
+    uint64_t outcome[4];
 };
 
-static struct lent first[JOBS][TEXTS], own[THREADS];
+static struct lent first[CALLS], own[THREADS];
 static pthread_barrier_t start;
 
-static void answer_one(enum job job, int i, struct lent *l) {
+/* The job, the text and the next text of a call. */
+static int job_of(int call) { return call % ALL_JOBS; }
+static const struct text *text_of(int call) { return &texts[call / ALL_JOBS]; }
+static const struct text *next_of(int call) {
+    return &texts[(call / ALL_JOBS + 1) % TEXTS];
+}
+
+static void answer_one(int call, struct lent *l) {
+    const struct text *t = text_of(call), *n = next_of(call);
     memset(l, 0, sizeof *l);
-    do_job(job, texts[i].bytes, texts[i].length, l->list, YILGORZA_LIST_RECORDS,
-           l->answer, YILGORZA_ANSWER_BYTES, l->outcome);
+    if (job_of(call) == COMPARE)
+        yilgorza_compare(t->bytes, t->length, l->list, YILGORZA_LIST_RECORDS, n->bytes,
+                         n->length, l->second_list, YILGORZA_LIST_RECORDS,
+                         l->outcome);
+    else
+        do_job(job_of(call), t->bytes, t->length, l->list, YILGORZA_LIST_RECORDS,
+               l->answer, YILGORZA_ANSWER_BYTES, l->outcome);
+}
+
+/* Whether the outcome is the one asked for; the count only of compare. */
+static int is_expected(int call, const uint64_t *outcome) {
+    uint64_t numbers[4];
+    if (job_of(call) != COMPARE)
+        return memcmp(outcome, expected(job_of(call), text_of(call)),
+                      2 * sizeof *outcome) == 0;
+    compared(text_of(call), next_of(call), numbers);
+    return memcmp(outcome, numbers, sizeof numbers) == 0;
 }
 
 /* Counts the answers that are as the first ones. */
@@ -30,10 +56,10 @@ static void *work(void *argument) {
     size_t same = 0;
     for (int round = 0; round < ROUNDS; round++) {
         pthread_barrier_wait(&start);
-        for (int k = 0; k < JOBS * TEXTS; k++) {
-            int at = thread == 0 ? k : JOBS * TEXTS - 1 - k;
-            answer_one(at % JOBS, at / JOBS, l);
-            same += memcmp(l, &first[at % JOBS][at / JOBS], sizeof *l) == 0;
+        for (int k = 0; k < CALLS; k++) {
+            int call = thread == 0 ? k : CALLS - 1 - k;
+            answer_one(call, l);
+            same += memcmp(l, &first[call], sizeof *l) == 0;
         }
     }
     return (void *)same;
@@ -45,12 +71,10 @@ int main(void) {
     int good = 1;
 
     make_texts();
-    for (int job = 0; job < JOBS; job++)
-        for (int i = 0; i < TEXTS; i++) {
-            answer_one(job, i, &first[job][i]);
-            good &= memcmp(first[job][i].outcome, expected(job, &texts[i]),
-                           2 * sizeof(uint64_t)) == 0;
-        }
+    for (int call = 0; call < CALLS; call++) {
+        answer_one(call, &first[call]);
+        good &= is_expected(call, first[call].outcome);
+    }
     verdict(good, "one thread gives the outcomes that are asked for");
     if (pthread_barrier_init(&start, NULL, THREADS))
         return 1;
@@ -62,8 +86,8 @@ int main(void) {
         if (pthread_join(threads[t], &same))
             return 1;
         snprintf(name, sizeof name, "thread %d: %zu of %d answers are the same", t,
-                 (size_t)same, ROUNDS * JOBS * TEXTS);
-        verdict((size_t)same == (size_t)ROUNDS * JOBS * TEXTS, name);
+                 (size_t)same, ROUNDS * CALLS);
+        verdict((size_t)same == (size_t)ROUNDS * CALLS, name);
     }
     return counts();
 }

@@ -1,5 +1,4 @@
 -- The laws and theorems of this crate, in reading order.
 pub mod Stored
-pub mod Written
 pub mod Told
 pub mod Numbers

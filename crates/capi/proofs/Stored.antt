@@ -7,7 +7,7 @@ use native.Mathlib.Omega.{arith}
 use lib.ListN.{length, getD, set, take, drop, replicate, length-append, length-take, length-replicate, List·getD-eq-default}
 use lib.Seq.{length-take-le, take-all, getD-take}
 use Rattle.records.proofs.Lists.{pasted, pasted-more}
-use Rattle.capi.specs.Exported.{not-0, record-at, front, stored, Storable}
+use Rattle.capi.specs.Exported.{not-0, record-at, front, written, Storable}
 
 -- ---- record i
 
@@ -41,5 +41,5 @@ module _ (ks : List ℕ) (count limit : ℕ) (l : List ℕ) (w : Storable ks cou
   pub stores : (i : ℕ) → i < limit → set (pasted (front ks count limit) l i) i (record-at ks count i) ≡ pasted (front ks count limit) l (i + 1)
   stores i h = rw (← padded-at (take count ks) (limit - count) i not-0) (pasted-more (front ks count limit) l i not-0 (omega (arith, length-front)) (omega (arith, w .within)))
 
-  pub stores-all : pasted (front ks count limit) l limit ≡ stored ks count limit l
+  pub stores-all : pasted (front ks count limit) l limit ≡ written ks count limit l
   stores-all = ap (λ (s : List ℕ). s ++ drop limit l) (take-all limit (front ks count limit) (le-of-eq length-front))

@@ -2,11 +2,10 @@
 use mathlib.Core.Path.{_≡_, refl, sym, ap, subst, _∙_}
 use mathlib.Core.Bool.{Bool, true, false, cond}
 use mathlib.Core.List.{List, [], _∷_, _++_}
-use Prim.Native.Nat.{ℕ, zero, suc, _-_, _≤_}
+use Prim.Native.Nat.{ℕ, zero, suc, _-_}
 use native.Mathlib.Omega.{arith}
 use lib.Dec.{eqb}
-use lib.ListN.{length, take, drop, replicate, drop-of-length-le}
-use borrow.Author.Tests.{eqb-true, eqb-false}
+use lib.ListN.{length, getD, take, drop, replicate, drop-of-length-le}
 use Rattle.gates.specs.declared.Gate.{Gate}
 use Rattle.gates.specs.declared.Gate.the-variants.{Not}
 use Rattle.gates.specs.Circuit.{valid-not}
@@ -14,12 +13,16 @@ use Rattle.gates.specs.Code.{assembled, gate, gates, Code, AllCodes}
 use Rattle.gates.proofs.Codes.{code-not, code-code}
 use Rattle.gates.proofs.CodeLists.{length-gates, gates-append, gates-drop, code-gates, all-codes-append}
 use Rattle.records.specs.declared.Done.{Done}
-use Rattle.records.specs.Records.{written}
+use Rattle.records.specs.declared.DoneTwo.{DoneTwo}
+use Rattle.records.specs.declared.Filling.{Filling}
+use Rattle.records.specs.Records as R
+use Rattle.records.specs.Records.{filled-by}
+use Rattle.habits.specs.Habits as habits
+use Rattle.habits.specs.Demands.{One}
 use Rattle.jobs.specs.Jobs.{Job, Exit}
-use Rattle.jobs.specs.Handing.{exit-of, Said, Hands}
+use Rattle.jobs.specs.Handing.{exit-of, exit-of-two, Said, limit-of, Settles, Hands, HandsTwo}
 use Rattle.jobs.proofs.One.{says-one}
-use Rattle.capi.specs.Exported.{codes, not-0, numbers, three, front, stored, Tells}
-use Rattle.capi.proofs.Written.{limit-none, limit-all}
+use Rattle.capi.specs.Exported.{codes, not-0, numbers, three, four, front, written, stored, Tells, TellsTwo}
 
 -- ---- the number of `not 0`
 
@@ -38,52 +41,60 @@ codes-not-0 (suc m) = (code-not-0, codes-not-0 m)
 -- ---- the list at exit
 
 -- the numbers that are written are those of the gates that the job's list would hold
-gates-stored : (ks : List ℕ) (count limit : ℕ) (l : List ℕ) → gates (stored ks count limit l) ≡ written ks count limit (gates l)
-gates-stored ks count limit l =
+gates-written : (ks : List ℕ) (count limit : ℕ) (l : List ℕ) → gates (written ks count limit l) ≡ R.written ks count limit (gates l)
+gates-written ks count limit l =
     gates-append (front ks count limit) (drop limit l)
     ∙ ap (λ (f : List Gate). f ++ gates (drop limit l)) (gates-append (take count ks) (replicate (limit - count) not-0) ∙ ap (λ (f : List Gate). gates (take count ks) ++ f) (gates-not-0 (limit - count)))
     ∙ ap (λ (f : List Gate). (gates (take count ks) ++ replicate (limit - count) (Not 0)) ++ f) (gates-drop limit l)
 
-module _ (j : Job) (s l a : List ℕ) (d : Done) (a′ : List ℕ) (all : length (d .codes) ≡ 4096) (w : Hands j s (length l) a d a′) where
-  abbrev l′ : List ℕ
-  l′ = stored (d .codes) (d .gates) (d .limit) l
+-- what is handed over for a list with this number
+module _ (number : ℕ) (f : Filling) (l : List ℕ) (w : Settles number (length l) f) where
+  pub gates-stored : gates (stored f l) ≡ filled-by f (gates l)
+  gates-stored = gates-written (f .codes) (f .gates) (f .limit) l
 
-  unchanged : d .limit ≡ 0 → l′ ≡ l
+  unchanged : f .limit ≡ 0 → stored f l ≡ l
   unchanged h =
-      let none : d .gates ≡ 0 = omega (arith, w .fits .few, h) in
+      let none : f .gates ≡ 0 = omega (arith, w .fits .few, h) in
       rw (none, h)
 
-  coded : d .limit ≡ length l → l′ ≡ codes (gates l′)
+  coded : f .limit ≡ length l → stored f l ≡ codes (gates (stored f l))
   coded h =
-      let rest : drop (d .limit) l ≡ [] = drop-of-length-le l {i = d .limit} (omega (arith, h)) in
-      sym (code-gates 32 l′ (all-codes-append 32 (front (d .codes) (d .gates) (d .limit)) (drop (d .limit) l)
-      (all-codes-append 32 (take (d .gates) (d .codes)) (replicate (d .limit - d .gates) not-0) (w .fits .valid) (codes-not-0 (d .limit - d .gates)))
+      let rest : drop (f .limit) l ≡ [] = drop-of-length-le l {i = f .limit} (omega (arith, h)) in
+      sym (code-gates 32 (stored f l) (all-codes-append 32 (front (f .codes) (f .gates) (f .limit)) (drop (f .limit) l)
+      (all-codes-append 32 (take (f .gates) (f .codes)) (replicate (f .limit - f .gates) not-0) (w .fits .valid) (codes-not-0 (f .limit - f .gates)))
       (rw rest tt)))
 
-  listed : l′ ≡ numbers (d .outcome .number) l (gates l′)
-  unfolding numbers
-  listed = go (eqb (d .outcome .number) 1) refl (eqb (d .outcome .number) 2) refl
+  pub stored-numbers : stored f l ≡ numbers number l (gates (stored f l))
+  unfolding numbers limit-of
+  stored-numbers = go (eqb number 1) (eqb number 2) (w .limit)
     where
-      early : 1 ≤ d .outcome .number → d .outcome .number ≤ 2 → l′ ≡ l
-      early h k = unchanged (limit-none j s a (length l) d a′ all w h k)
-
-      go : (b : Bool) → eqb (d .outcome .number) 1 ≡ b → (c : Bool) → eqb (d .outcome .number) 2 ≡ c → l′ ≡ cond b l (cond c l (codes (gates l′)))
-      go true p c q = let h = eqb-true (d .outcome .number) 1 p in early (omega arith) (omega arith)
-      go false p true q = let h = eqb-true (d .outcome .number) 2 q in early (omega arith) (omega arith)
-      go false p false q = coded (limit-all j s a (length l) d a′ all w (eqb-false (d .outcome .number) 1 p) (eqb-false (d .outcome .number) 2 q))
-
-  tells-stored : Tells j s l a (three (d .outcome .number) (d .outcome .line) (d .outcome .count)) l′ a′
-  tells-stored = record {
-    answer = d .outcome;
-    outcome = refl;
-    said = subst (λ (r : List Gate). Said j s (gates l) a (d .outcome) r a′) (sym (gates-stored (d .codes) (d .gates) (d .limit) l)) (w .tells (gates l) (length-gates l));
-    list = listed;
-  }
+      go : (b c : Bool) → f .limit ≡ cond b 0 (cond c 0 (length l)) → stored f l ≡ cond b l (cond c l (codes (gates (stored f l))))
+      go true c e = unchanged e
+      go false true e = unchanged e
+      go false false e = coded e
 
 -- what a job hands over, written into the list and the outcome
-pub told : {j : Job} {s l a : List ℕ} {d : Done} {o l′ a′ : List ℕ} → length (d .codes) ≡ 4096 → Hands j s (length l) a d a′
-    → (l′ ≡ stored (d .codes) (d .gates) (d .limit) l) × (o ≡ three (d .outcome .number) (d .outcome .line) (d .outcome .count)) → Tells j s l a o l′ a′
-told {j} {s} {l} {a} {d} {a′ = a′} all w over = rw (over .0, over .1) (tells-stored j s l a d a′ all w)
+pub told : {j : Job} {s l a : List ℕ} {d : Done} {o l′ a′ : List ℕ} → Hands j s (length l) a d a′
+    → (l′ ≡ stored (d .filling) l) × (o ≡ three (d .outcome .number) (d .outcome .line) (d .outcome .count)) → Tells j s l a o l′ a′
+told {j} {s} {l} {a} {d} {a′ = a′} w over = rw (over .0, over .1) (record {
+  answer = d .outcome;
+  outcome = refl;
+  said = subst (λ (r : List Gate). Said j s (gates l) a (d .outcome) r a′) (sym (gates-stored (d .outcome .number) (d .filling) l (w .settles))) (w .tells (gates l) (length-gates l));
+  list = stored-numbers (d .outcome .number) (d .filling) l (w .settles);
+})
+
+-- the same of a job over several texts and two lists
+pub told-two : {Says : List Gate → List Gate → habits.Exit → Type 0} {l k : List ℕ} {d : DoneTwo} {o l′ k′ : List ℕ} → HandsTwo Says (length l) (length k) d
+    → (l′ ≡ stored (d .first) l) × (k′ ≡ stored (d .second) k) × (o ≡ four (d .outcome .number) (d .outcome .line) (d .outcome .text) (d .outcome .count)) → TellsTwo Says l k o l′ k′
+told-two {Says} {l} {k} {d} w over = rw (over .0, over .1, over .2) (record {
+  answer = d .outcome;
+  outcome = refl;
+  said =
+      rw (gates-stored (d .outcome .number) (d .first) l (w .first), gates-stored (d .outcome .number) (d .second) k (w .second))
+      (w .tells (gates l) (gates k) (length-gates l) (length-gates k));
+  first = stored-numbers (d .outcome .number) (d .first) l (w .first);
+  second = stored-numbers (d .outcome .number) (d .second) k (w .second);
+})
 
 -- ---- the promise settles all that is lent: whatever keeps it leaves the same outcome, the same list and the same area
 
@@ -99,3 +110,16 @@ module _ (j : Job) (s l a : List ℕ) where
         t .list ∙ ap (λ (x : Exit). numbers (x .number) l (x .list)) e ∙ sym (u .list),
         ap (λ (x : Exit). x .area) e,
       )
+
+-- the same of a job over several texts and two lists, whose contract allows exactly one exit
+module _ {Says : List Gate → List Gate → habits.Exit → Type 0} (l k : List ℕ) (one : One (Says (gates l) (gates k))) where
+  pub tells-two-one : {o l′ k′ p m n : List ℕ} → TellsTwo Says l k o l′ k′ → TellsTwo Says l k p m n → (o ≡ p) × (l′ ≡ m) × (k′ ≡ n)
+  tells-two-one t u =
+      let e = one .2 _ (t .said) ∙ sym (one .2 _ (u .said)) in (
+        t .outcome ∙ ap (λ (x : habits.Exit). four (x .number) (x .line) (x .text) (x .count)) e ∙ sym (u .outcome),
+        t .first ∙ ap (λ (x : habits.Exit). numbers (x .number) l (listed 0 x)) e ∙ sym (u .first),
+        t .second ∙ ap (λ (x : habits.Exit). numbers (x .number) k (listed 1 x)) e ∙ sym (u .second),
+      )
+    where
+      listed : ℕ → habits.Exit → List Gate
+      listed i x = getD (x .lent .lists) i []

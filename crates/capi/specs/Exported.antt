@@ -12,8 +12,11 @@ use Rattle.gates.specs.declared.Gate.the-variants.{Not, Powered}
 use Rattle.gates.specs.Circuit.{Valid}
 use Rattle.gates.specs.Code.{code, gates}
 use Rattle.records.specs.declared.Outcome.{Outcome}
+use Rattle.records.specs.declared.TextOutcome.{TextOutcome}
+use Rattle.records.specs.declared.Filling.{Filling}
+use Rattle.habits.specs.Habits as habits
 use Rattle.jobs.specs.Jobs.{Job}
-use Rattle.jobs.specs.Handing.{Said}
+use Rattle.jobs.specs.Handing.{Said, exit-of-two}
 
 -- ---- the gate list as numbers
 
@@ -33,6 +36,10 @@ numbers number l r = cond (eqb number 1) l (cond (eqb number 2) l (codes r))
 abbrev pub three : ℕ → ℕ → ℕ → List ℕ
 three a b c = a ∷ b ∷ c ∷ []
 
+-- four numbers, as number, line, text number and count
+abbrev pub four : ℕ → ℕ → ℕ → ℕ → List ℕ
+four a b c d = a ∷ b ∷ c ∷ d ∷ []
+
 -- ---- the contract of map, reduce and quote
 
 -- what one promises of the text, the list and the area at entry, and of the outcome, the list and the area at exit: what its job says
@@ -42,6 +49,16 @@ pub record Tells (j : Job) (s l a : List ℕ) (o l′ a′ : List ℕ) : Type 0 
   pub outcome : o ≡ three (answer .number) (answer .line) (answer .count)
   pub said : Said j s (gates l) a answer (gates l′) a′
   pub list : l′ ≡ numbers (answer .number) l (gates l′)
+
+-- ---- the contract of a job over several texts and two lists
+
+-- what one promises of the lists l and k at entry, and of the outcome and the lists at exit: what its job says (`Says`) where all are read as gates
+pub record TellsTwo (Says : List Gate → List Gate → habits.Exit → Type 0) (l k : List ℕ) (o l′ k′ : List ℕ) : Type 0 where
+  pub answer : TextOutcome
+  pub outcome : o ≡ four (answer .number) (answer .line) (answer .text) (answer .count)
+  pub said : Says (gates l) (gates k) (exit-of-two answer (gates l′) (gates k′))
+  pub first : l′ ≡ numbers (answer .number) l (gates l′)
+  pub second : k′ ≡ numbers (answer .number) k (gates k′)
 
 -- ---- the contract of the reading of a record
 
@@ -71,8 +88,12 @@ abbrev pub front : List ℕ → ℕ → ℕ → List ℕ
 front ks count limit = take count ks ++ replicate (limit - count) not-0
 
 -- a list after its first `limit` records are written: the rest is as it was
-abbrev pub stored : List ℕ → ℕ → ℕ → List ℕ → List ℕ
-stored ks count limit l = front ks count limit ++ drop limit l
+abbrev pub written : List ℕ → ℕ → ℕ → List ℕ → List ℕ
+written ks count limit l = front ks count limit ++ drop limit l
+
+-- a list after a job has handed f over for it
+abbrev pub stored : Filling → List ℕ → List ℕ
+stored f l = written (f .codes) (f .gates) (f .limit) l
 
 -- the first `count` codes are there, and `limit` records
 pub record Storable (ks : List ℕ) (count limit room : ℕ) : Type 0 where

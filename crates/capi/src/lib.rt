@@ -1,6 +1,9 @@
-// The three jobs as C functions, and one that reads a gate record: gates are numbers, and the outcome is three numbers.
+// The jobs as C functions, and one that reads a gate record: gates are numbers, and the outcome is three numbers, or four where a job has several
+// texts.
 use gates::Gate;
 use records::Done;
+use records::DoneTwo;
+use records::Filling;
 use text::Kind;
 ghost use mathlib.Core.Path.{_≡_};
 ghost use mathlib.Core.List.{[]};
@@ -9,7 +12,8 @@ ghost use lib.ListN.{length};
 ghost use Rattle.gates.specs.Code.{Code};
 ghost use Rattle.records.specs.Records.{Fits};
 ghost use Rattle.jobs.specs.Jobs.{mapping, reducing, quoting, writes};
-ghost use Rattle.capi.specs.Exported.{three, record-at, stored, Storable, Tells, Whether, gate-parts, RecordParts};
+ghost use Rattle.comparison.specs.Compare.{Compare};
+ghost use Rattle.capi.specs.Exported.{three, four, record-at, written, stored, Storable, Tells, TellsTwo, Whether, gate-parts, RecordParts};
 
 // The record of the gate `not 0`.
 const NOT_0: u16 = 2;
@@ -28,7 +32,7 @@ fn code_at(codes: &[u16], count: usize, i: usize) -> u16
 // Writes the first `limit` records: `count` codes, then `not 0`.
 fn store_codes(list: &mut [u16], codes: &[u16], count: usize, limit: usize)
     requires { ⌜ Storable (now codes) count limit (length (now list)) ⌝ }
-    ensures { λ _. ⌜ now (list .exit) ≡ stored (now (codes .entry)) count limit (now (list .entry)) ⌝ }
+    ensures { λ _. ⌜ now (list .exit) ≡ written (now (codes .entry)) count limit (now (list .entry)) ⌝ }
 {
     let mut i = 0;
     while i < limit {
@@ -37,15 +41,39 @@ fn store_codes(list: &mut [u16], codes: &[u16], count: usize, limit: usize)
     }
 }
 
-// Writes what a job hands over into the list and the outcome that the caller lends.
-fn hand_over(d: Done, list: &mut [u16], outcome: &mut [u64; 3])
-    requires { ⌜ Fits d (length (now list)) ⌝ }
-    ensures { λ _. ⌜ (now (list .exit) ≡ stored (d .codes) (d .gates) (d .limit) (now (list .entry))) × (now (outcome .exit) ≡ three (d .outcome .number) (d .outcome .line) (d .outcome .count)) ⌝ }
+// Writes into a list what a job hands over for it.
+fn store_filling(f: Filling, list: &mut [u16])
+    requires { ⌜ Fits f (length (now list)) ⌝ }
+    ensures { λ _. ⌜ now (list .exit) ≡ stored f (now (list .entry)) ⌝ }
 {
-    let codes = d.codes;
-    store_codes(list, &codes, d.gates, d.limit);
+    let codes = f.codes;
+    store_codes(list, &codes, f.gates, f.limit);
+}
+
+// Writes what a job over one text hands over into the list and the outcome that the caller lends.
+fn hand_over(d: Done, list: &mut [u16], outcome: &mut [u64; 3])
+    requires { ⌜ Fits (d .filling) (length (now list)) ⌝ }
+    ensures { λ _. ⌜ (now (list .exit) ≡ stored (d .filling) (now (list .entry))) × (now (outcome .exit) ≡ three (d .outcome .number) (d .outcome .line) (d .outcome .count)) ⌝ }
+{
+    store_filling(d.filling, list);
     let said = d.outcome;
     *outcome = [said.number as u64, said.line as u64, said.count as u64];
+}
+
+// The same of a job over several texts and two lists.
+fn hand_over_two(d: DoneTwo, list: &mut [u16], list2: &mut [u16], outcome: &mut [u64; 4])
+    requires { ⌜ Fits (d .first) (length (now list)) × Fits (d .second) (length (now list2)) ⌝ }
+    ensures { λ _. ⌜ (now (list .exit) ≡ stored (d .first) (now (list .entry))) × (now (list2 .exit) ≡ stored (d .second) (now (list2 .entry))) × (now (outcome .exit) ≡ four (d .outcome .number) (d .outcome .line) (d .outcome .text) (d .outcome .count)) ⌝ }
+{
+    store_filling(d.first, list);
+    store_filling(d.second, list2);
+    let said = d.outcome;
+    *outcome = [
+        said.number as u64,
+        said.line as u64,
+        said.text as u64,
+        said.count as u64,
+    ];
 }
 
 // Answers a text of this kind with a circuit text.
@@ -89,6 +117,21 @@ pub extern "C" fn yilgorza_quote(text: &[u8], list: &mut [u16], outcome: &mut [u
 {
     let d = jobs::quote_codes(text, list.len());
     hand_over(d, list, outcome);
+}
+
+// Compares two circuit texts.
+#[no_mangle]
+pub extern "C" fn yilgorza_compare(
+    first: &[u8],
+    first_list: &mut [u16],
+    second: &[u8],
+    second_list: &mut [u16],
+    outcome: &mut [u64; 4],
+)
+    ensures { λ _. ⌜ TellsTwo (λ l m x. Compare (now (first .entry)) l (now (second .entry)) m x) (now («first_list» .entry)) (now («second_list» .entry)) (now (outcome .exit)) (now («first_list» .exit)) (now («second_list» .exit)) ⌝ }
+{
+    let d = comparison::compare_codes(first, first_list.len(), second, second_list.len());
+    hand_over_two(d, first_list, second_list, outcome);
 }
 
 // Whether a number is that of a gate on 32 lines: a NOT of power 2, or a gate with a power whose control is not its target.

@@ -3,8 +3,7 @@ use mathlib.Core.Path.{_≡_, refl, sym, ap, _∙_, subst}
 use mathlib.Core.List.{List, [], _++_}
 use Prim.Native.Nat.{ℕ, _≤_}
 use native.Mathlib.Omega.{arith}
-use lib.ListN.{length, take, drop, replicate, length-append, length-replicate}
-use lib.Seq.{take-append-seam}
+use lib.ListN.{length, drop, replicate, length-replicate}
 use borrow.Author.Tests.{le-ltb}
 use Rattle.gates.specs.declared.Gate.{Gate}
 use Rattle.gates.specs.declared.Gate.the-variants.{Not}
@@ -21,8 +20,9 @@ use Rattle.writing.specs.Decimal as form
 use Rattle.jobs.specs.Jobs.{mapping, reducing, quoting, takes, Output, as-text, as-count, output, Entry, Exit, refusal, judged, judged-text, success, written, put-out, answered, Settled, Says}
 use Rattle.jobs.specs.Jobs as jobs
 use Rattle.jobs.specs.Handing.{exit-of, Own}
+use Rattle.jobs.proofs.Habits.{accepts-judged}
 use Rattle.jobs.proofs.One.{text-passed}
-use Rattle.jobs.proofs.Numbers.{judged-sized, text-count, demand-1}
+use Rattle.jobs.proofs.Numbers.{text-count, demand-1}
 use Rattle.console.specs.declared.Job.{Job}
 use Rattle.console.specs.declared.Job.the-variants.{Map, Reduce, Quote}
 use Rattle.console.specs.Output.{shown, PrintsBy, Prints, job-of, answer-bytes, Fronts, Answers, Does, Succeeds}
@@ -63,7 +63,7 @@ own-left j s a o b room (l, says) = go (judged-text (takes j) s 4096) (sym (ap (
     go : (d : Judged) → d ≡ judged (takes j) e → judged-text (takes j) s 4096 ≡ d → Left j s a o b
     go (turned-away r i) p q =
         let z : x ≡ refusal r i e = subst (λ (d : Judged). Settled j e d x) (sym p) says in
-        let n : o .number ≡ 0 → ⊥ = λ k. let v = demand-1 j e x says .success-leaves k .2 in away-accepted (p ∙ judged-sized (takes j) e (v .sized) ∙ v .passed) in
+        let n : o .number ≡ 0 → ⊥ = λ k. let v = demand-1 j e x says .success-leaves k .2 in away-accepted (p ∙ accepts-judged (takes j) s (length (e .list)) (v .accepts)) in
         refused q n (ap (λ (y : Exit). y .number) z) (ap (λ (y : Exit). y .line) z) (ap (λ (y : Exit). y .area) z)
     go (accepted h c) p q =
         let y : (r : List Gate) × Reduced (h .lines) c r × (x ≡ put-out (output j) e h r) = subst (λ (d : Judged). Settled j e d x) (sym p) says in
@@ -112,11 +112,3 @@ module _ (j : Job) (s a : List ℕ) (o : Outcome) (b : List ℕ) (n : ℕ) (d : 
       go (refused q x i k e) = absurd (x z)
       go (succeeded {h} {c} {r} q w y k) =
           record { written = shown (output (job-of j)) (h .lines) r; prints = prints-success (job-of j) s q w; fronts = fronted (output (job-of j)) (h .lines) r a (o .count) b n d k f }
-
--- ---- the bytes at the front of the area
-
-pub answer-within : {j : Job} {s a : List ℕ} {n : ℕ} {b : List ℕ} → Answers j s a n b → n ≤ length b
-answer-within {a = a} {n} x = rw (x .fronts .bytes) (omega (arith, x .fronts .number, length-append (x .written) (drop n a)))
-
-pub answer-prints : {j : Job} {s a : List ℕ} {n : ℕ} {b : List ℕ} → Answers j s a n b → Prints (job-of j) s (take n b)
-answer-prints {j} {s} {a} {n} x = rw (x .fronts .bytes, x .fronts .number, take-append-seam (x .written) (drop (length (x .written)) a)) (x .prints)

@@ -3,8 +3,7 @@ use mathlib.Core.Path.{_≡_, refl, sym, _∙_}
 use mathlib.Core.List.{List, [], _∷_}
 use Prim.Native.Nat.{ℕ, _≤_}
 use native.Mathlib.Omega.{arith}
-use lib.ListN.{length, take, drop, replicate, length-replicate}
-use lib.Seq.{take-append-seam}
+use lib.ListN.{length, take, replicate, length-replicate}
 use Rattle.gates.specs.Every.{Every}
 use Rattle.gates.specs.declared.Gate.the-variants.{Not}
 use Rattle.records.specs.declared.Outcome.{Outcome}
@@ -15,7 +14,8 @@ use Rattle.jobs.specs.Jobs.{Job, as-text, as-count, output, Entry, Exit, Says}
 use Rattle.jobs.specs.Examples.{typed, Answer, text, gates, away, Row, gives, expands, Shows, room, Correct, table}
 use Rattle.jobs.proofs.One.{says-one}
 use Rattle.jobs.proofs.Table.{examples}
-use Rattle.console.specs.Output.{Prints, answer-bytes, Fronts}
+use Rattle.console.specs.Output.{Prints, answer-bytes}
+use Rattle.console.proofs.Front.{fronts-are}
 use Rattle.console.proofs.Answers.{Left, refused, succeeded, own-left, prints-refusal, prints-success}
 
 -- an answer as bytes
@@ -55,13 +55,10 @@ module _ (j : Job) (s : List ℕ) (x : Exit) (says : Says j (entry s) x) where
   prints-text : (t : List ℕ) → output j ≡ as-text → x .number ≡ 0 → take (x .count) (x .area) ≡ t → Prints j s t
   prints-text t i z e = go left
     where
-      front : (u : List ℕ) → Fronts (entry s .area) (x .count) (x .area) u → take (x .count) (x .area) ≡ u
-      front u g = rw (g .bytes, g .number) (take-append-seam u (drop (length u) (entry s .area)))
-
       go : Leaves → Prints j s t
       go (refused q n k l b) = absurd (n z)
       go (succeeded {h} {c} {r} q w k f) =
-          let u : t ≡ circuit-text (h .lines) r = sym e ∙ front (circuit-text (h .lines) r) (rw i at f) in
+          let u : t ≡ circuit-text (h .lines) r = sym e ∙ fronts-are (rw i at f) in
           rw u (rw i at (prints-success j s q w))
 
   prints-gates : (m : ℕ) → output j ≡ as-count → x .number ≡ 0 → x .count ≡ m → Prints j s (form.quote m)

@@ -1,15 +1,43 @@
--- The input that was read stands at the front of its buffer. Assumes nothing.
-use mathlib.Core.Path.{_≡_, sym, subst}
-use mathlib.Core.List.{List}
+-- What stands at the front of a buffer, as the input that was read, and of an area, as the bytes of an answer. Assumes nothing.
+use mathlib.Core.Path.{_≡_, sym, ap, _∙_, subst}
+use mathlib.Core.List.{List, _++_}
 use Prim.Native.Nat.{ℕ, _≤_}
-use lib.ListN.{length, take}
-use lib.Seq.{length-take-le}
+use native.Mathlib.Omega.{arith}
+use lib.ListN.{length, take, drop, length-append}
+use lib.Seq.{length-take-le, take-append-seam}
 use Rattle.console.specs.declared.Input.{Input}
 use Rattle.console.specs.declared.Input.the-variants.{Bytes}
 use Rattle.console.specs.Input.{Within}
+use Rattle.console.specs.Output.{Fronts}
 
+-- ---- the input
+
+-- the n bytes read stand within the buffer
 pub fits : (buffer : List ℕ) {r : Input} {n : ℕ} → Within 0 (length buffer) r → r ≡ Bytes n → n ≤ length buffer
 fits buffer w e = subst (Within 0 (length buffer)) e w .1
 
+-- and are its first n bytes
 pub part : (buffer : List ℕ) {r : Input} {n : ℕ} → Within 0 (length buffer) r → r ≡ Bytes n → n ≡ length (take n buffer)
 part buffer {n} w e = sym (length-take-le n buffer (fits buffer w e))
+
+-- ---- an answer
+
+module _ {a : List ℕ} {n : ℕ} {b w : List ℕ} (f : Fronts a n b w) where
+  -- it stands within the area
+  pub fronts-within : n ≤ length b
+  fronts-within = rw (f .bytes) (omega (arith, f .number, length-append w (drop n a)))
+
+  -- it is the first n bytes
+  pub fronts-are : take n b ≡ w
+  fronts-are = rw (f .bytes, f .number) (take-append-seam w (drop (length w) a))
+
+  -- and there are n of them
+  pub fronts-part : n ≡ length (take n b)
+  fronts-part = sym (length-take-le n b fronts-within)
+
+-- the bytes settle how many they are, and what stands in the area with them
+pub fronts-one : {a : List ℕ} {n m : ℕ} {b d w v : List ℕ} → w ≡ v → Fronts a n b w → Fronts a m d v → (n ≡ m) × (b ≡ d)
+fronts-one {a} {n} {m} {w = w} {v} e x y =
+    let k = x .number ∙ ap length e ∙ sym (y .number) in
+    let f : w ++ drop n a ≡ v ++ drop m a = rw (e, k) in
+    (k, x .bytes ∙ f ∙ sym (y .bytes))

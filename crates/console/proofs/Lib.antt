@@ -3,6 +3,7 @@ pub mod Counted
 pub mod Front
 pub mod Longest
 pub mod Answers
+pub mod Ended
 pub mod Prints
 pub mod Examples
 pub mod Numbers

@@ -1,24 +1,40 @@
--- The refusal that a program writes is 1 or one of 3 to 9: it has a gate list and an area that are long enough. Assumes nothing.
-use mathlib.Core.Path.{_≡_, ap}
+-- The refusal that a program writes is neither 2 nor 10: it has gate lists and an area that are long enough. Assumes nothing.
+use mathlib.Core.Path.{_≡_, refl, ap, _∙_}
 use mathlib.Core.Logic.{_≢_}
-use mathlib.Core.Bool.{Bool, true, false}
 use mathlib.Core.List.{List, [], _∷_}
 use Prim.Native.Nat.{ℕ}
 use native.Mathlib.Omega.{arith}
-use lib.Dec.{ltb}
-use lib.ListN.{length}
 use Rattle.text.specs.declared.Refusal.{Refusal}
-use Rattle.text.specs.declared.Refusal.the-variants.{Overlong, ShortList}
+use Rattle.text.specs.declared.Refusal.the-variants.{Overlong}
+use Rattle.text.specs.declared.Kind.{Kind}
 use Rattle.text.specs.Refusals.{number-of}
-use Rattle.text.specs.Judging.{turned-away, judge, rule, first, or-else}
-use Rattle.jobs.specs.Jobs.{Job, takes, judged-text, size-rules}
-use Rattle.jobs.proofs.Numbers.{judge-by-line}
+use Rattle.text.specs.Judging.{Judged, turned-away, accepted, Found, judge}
+use Rattle.habits.specs.Habits.{_then_, passes, taken, told, text-judged}
+use Rattle.habits.proofs.Rules.{Sizes, too-long, too-few, passing, sizes}
+use Rattle.habits.proofs.Lines.{judge-by-line}
+use Rattle.habits.proofs.Yields.{Yields, refuses, ends, yields-away}
+use Rattle.jobs.specs.Jobs.{Job, takes, judged-text}
+use Rattle.jobs.proofs.Habits.{judged-told}
 
--- rule 2 lets 4,096 records pass
-pub never-2-or-10 : (j : Job) (s : List ℕ) {r : Refusal} {l : ℕ} → judged-text (takes j) s 4096 ≡ turned-away r l → (number-of r ≢ 2) × (number-of r ≢ 10)
-unfolding judged-text size-rules first or-else
-never-2-or-10 j s {r} {l} q = go (ltb 60000 (length s)) q
+-- a refusal that programs may write
+abbrev pub Writable : Refusal → (text line : ℕ) → Type 0
+Writable r t l = (number-of r ≢ 2) × (number-of r ≢ 10)
+
+-- every refusal of a text of any number, judged with a list of 4,096 records, is one: rule 2 lets them pass
+pub yields-writable : (t : ℕ) (k : Kind) (s : List ℕ) → Yields Writable (λ _. Unit {0}) (text-judged t k s (4096 ∷ []))
+unfolding text-judged taken passes told
+yields-writable t k s = go (sizes s (4096 ∷ []))
   where
-    go : (b : Bool) → or-else (first (rule Overlong b ∷ rule ShortList false ∷ [])) 0 (judge (takes j) s) ≡ turned-away r l → (number-of r ≢ 2) × (number-of r ≢ 10)
-    go true e = let o : Overlong ≡ r = cc in let n = ap number-of o in (λ k. omega (arith, k, n), λ k. omega (arith, k, n))
-    go false e = let n = judge-by-line (takes j) s e in (λ k. omega (arith, k, n .0), λ k. omega (arith, k, n .1))
+    line : (j : Judged) → judge k s ≡ j → Yields Writable (λ _. Unit {0}) (told t j)
+    line (turned-away r l) e = let n = judge-by-line k s e in refuses {r = r} (λ i. omega (arith, i, n .0), λ i. omega (arith, i, n .1))
+    line (accepted h c) e = ends tt
+
+    go : {f : Found} → Sizes s (4096 ∷ []) f → Yields Writable (λ _. Unit {0}) (passes f t 0 then λ _. told t (judge k s))
+    go (too-long h) = refuses {r = Overlong} (λ i. omega (arith, i), λ i. omega (arith, i))
+    go (too-few h l) = absurd (l (omega arith, tt))
+    go (passing z) = line (judge k s) refl
+
+-- so no refusal of a program over one text is 2 or 10
+pub never-2-or-10 : (j : Job) (s : List ℕ) {r : Refusal} {l : ℕ} → judged-text (takes j) s 4096 ≡ turned-away r l → (number-of r ≢ 2) × (number-of r ≢ 10)
+unfolding told
+never-2-or-10 j s q = yields-away (yields-writable 1 (takes j) s) (judged-told 1 (takes j) s 4096 ∙ ap (told 1) q)

@@ -1,18 +1,18 @@
 -- What a program writes: for every text exactly one thing, and its last byte is 10. Assumes nothing.
 use mathlib.Core.Path.{_≡_, refl, sym, ap, _∙_}
-use mathlib.Core.List.{List, [], _∷_, _++_, map, append-nil, append-assoc}
+use mathlib.Core.List.{List, [], _∷_, map, append-nil}
 use Prim.Native.Nat.{ℕ}
-use lib.ListN.{length, drop}
 use Rattle.gates.specs.declared.Gate.{Gate}
 use Rattle.gates.specs.declared.Gate.the-variants.{Not, Powered}
 use Rattle.gates.proofs.ReducedLists.{one-reduced-list}
 use Rattle.text.specs.Text.{Form, lines, gate, bytes, digits, one, two, word, render, rendered, circuit-text}
 use Rattle.text.specs.Judging.{Judged, turned-away, accepted}
-use Rattle.writing.specs.Decimal.{decimal, one-number, two-numbers}
 use Rattle.jobs.specs.Jobs.{Job, takes, Output, as-text, as-count, output, judged-text}
 use Rattle.jobs.proofs.One.{text-passed, passed-valid}
 use Rattle.console.specs.declared.Job as console
 use Rattle.console.specs.Output.{shown, PrintsBy, Prints, job-of, Answers}
+use Rattle.console.proofs.Front.{fronts-one}
+use Rattle.console.proofs.Ended.{Ended, behind, bracket, one-number-ended, two-numbers-ended}
 
 -- ---- exactly one
 
@@ -31,21 +31,9 @@ prints-one j s = only j s (judged-text (takes j) s 4096) refl
 pub answers-one : (i : console.Job) (s a : List ℕ) (n m : ℕ) (b d : List ℕ) → Answers i s a n b → Answers i s a m d → (n ≡ m) × (b ≡ d)
 answers-one i s a n m b d x y =
     let p = prints-one (job-of i) s in
-    let e = p .2 (x .written) (x .prints) ∙ sym (p .2 (y .written) (y .prints)) in
-    let k = x .fronts .number ∙ ap length e ∙ sym (y .fronts .number) in
-    let f : x .written ++ drop n a ≡ y .written ++ drop m a = rw (e, k) in
-    (k, x .fronts .bytes ∙ f ∙ sym (y .fronts .bytes))
+    fronts-one (p .2 (x .written) (x .prints) ∙ sym (p .2 (y .written) (y .prints))) (x .fronts) (y .fronts)
 
 -- ---- ended by byte 10
-
-abbrev pub Ended : List ℕ → Type 0
-Ended w = (u : List ℕ) × (w ≡ u ++ 10 ∷ [])
-
-behind : (u : List ℕ) {w : List ℕ} → Ended w → Ended (u ++ w)
-behind u (v, e) = (u ++ v, ap (λ (t : List ℕ). u ++ t) e ∙ sym (append-assoc u v (10 ∷ [])))
-
-bracket : Ended (bytes ")\n")
-bracket = (41 ∷ [], refl)
 
 one-ended : (t : ℕ) → Ended (one t)
 unfolding one
@@ -62,13 +50,13 @@ forms-ended f [] e = rw (append-nil (render f)) e
 forms-ended f (g ∷ c) e = behind (render f) (forms-ended (gate g) c (gate-ended g))
 
 shown-ended : (k : Output) (n : ℕ) (r : List Gate) → Ended (shown k n r)
-unfolding circuit-text render one-number
+unfolding circuit-text render
 shown-ended as-text n r = forms-ended (lines n) r (behind (bytes "(lines ") (one-ended n))
-shown-ended as-count n r = behind (bytes "(quote ") (behind (decimal _) bracket)
+shown-ended as-count n r = one-number-ended (bytes "(quote ") _
 
 shows-ended : (k : Output) (d : Judged) (w : List ℕ) → PrintsBy k d w → Ended w
-unfolding PrintsBy two-numbers
-shows-ended k (turned-away r l) w e = rw e (behind (bytes "(turned-away ") (behind (decimal _ ++ bytes " ") (behind (decimal l) bracket)))
+unfolding PrintsBy
+shows-ended k (turned-away r l) w e = rw e (two-numbers-ended (bytes "(turned-away ") _ l)
 shows-ended k (accepted h c) w (r, x, e) = rw e (shown-ended k (h .lines) r)
 
 pub prints-ended : (j : Job) (s w : List ℕ) → Prints j s w → Ended w

@@ -1,4 +1,5 @@
-// The programs over one text: the text read from a file or from standard input, a job done on it, and the bytes of its answer written.
+// The programs over one text: the text read from a file or from standard input, a job done on it, and the bytes of its answer written; and of these
+// what the programs over several texts use too.
 ghost use Prim.Native.Nat.{_≤_};
 ghost use lib.ListN.{length};
 ghost use Rattle.jobs.specs.Jobs.{output};
@@ -7,7 +8,7 @@ ghost use Rattle.console.specs.Output.{Prints, job-of, Answers, Does, Su
 use records::Outcome;
 
 // How many bytes a text may have.
-const TEXT_BYTES: usize = 60000;
+pub const TEXT_BYTES: usize = 60000;
 
 // How many bytes the longest answer has: 11 for line 1 and for each of 4,096 gates.
 pub const ANSWER_BYTES: usize = 11 + 11 * 4096;
@@ -98,7 +99,7 @@ fn read_input(fd: i32, buffer: &mut [u8]) -> Input
 }
 
 // Writes a line to standard error.
-fn tell(line: &[u8]) {
+pub fn tell(line: &[u8]) {
     io::write_all(libc::STDERR_FILENO, line);
 }
 
@@ -170,13 +171,18 @@ fn tell_usage(job: Job) {
 
 // ---- a program
 
-// Writes to standard output what the program of a job is to write for a text, which its contract names, or says that it cannot.
-fn print(job: Job, text: &[u8], bytes: &[u8])
-    requires { ⌜ Prints (job-of job) (now text) (now bytes) ⌝ }
-{
+// Writes to standard output, or says that it cannot.
+pub fn write_out(bytes: &[u8]) {
     if !io::write_all(libc::STDOUT_FILENO, bytes) {
         tell(b"standard output cannot be written\n");
     }
+}
+
+// Writes what the program of a job is to write for a text, which its contract names.
+fn print(job: Job, text: &[u8], bytes: &[u8])
+    requires { ⌜ Prints (job-of job) (now text) (now bytes) ⌝ }
+{
+    write_out(bytes);
 }
 
 // Writes the answer of a job on a text.

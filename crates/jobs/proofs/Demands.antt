@@ -23,7 +23,9 @@ use Rattle.text.specs.Text.{circuit-text}
 use Rattle.text.specs.declared.Kind.{Kind}
 use Rattle.text.specs.declared.Kind.the-variants.{Cascade, Circuit}
 use Rattle.text.specs.Judging.{Judged, turned-away, accepted, judge}
-use Rattle.jobs.specs.Jobs.{Job, quoting, takes, Output, as-text, as-count, output, Entry, Exit, filled, left, refusal, judged, success, written, put-out, answered, Settled, Says}
+use Rattle.habits.specs.Habits.{left}
+use Rattle.habits.proofs.Says.{filled-first}
+use Rattle.jobs.specs.Jobs.{Job, quoting, takes, Output, as-text, as-count, output, Entry, Exit, refusal, judged, success, written, put-out, answered, Settled, Says}
 use Rattle.jobs.specs.Demands.{Gives, Listed, given, withheld, Ran, ShownCascade, ShownCircuit, Meant, Demand2, Demand3}
 use Rattle.text.proofs.Accepted.{Text, accepted-circuit, text-valid, cascade-of, circuit-of}
 use Rattle.text.proofs.Written.{gates-proper, judge-written}
@@ -68,8 +70,7 @@ pub area-front : (e : Entry) (r : List Gate) (s t : List ℕ) {x : Exit} → x �
 area-front e r s t q = ap (λ (y : Exit). take (y .count) (y .area)) q ∙ take-append-seam s t
 
 list-front : (e : Entry) (r : List Gate) (a : List ℕ) {x : Exit} → x ≡ success e r (length r) a → take (x .count) (x .list) ≡ r
-unfolding filled
-list-front e r a q = ap (λ (y : Exit). take (y .count) (y .list)) q ∙ take-append-seam r _
+list-front e r a q = ap (λ (y : Exit). take (y .count) (y .list)) q ∙ filled-first r (e .list)
 
 pub refusal-is : (r : Refusal) (l : ℕ) (e : Entry) {x : Exit} → x ≡ refusal r l e → (x .number ≡ number-of r) × (x .line ≡ l) × (x .count ≡ 0) × (x .list ≡ left r (e .list)) × (x .area ≡ e .area)
 unfolding refusal

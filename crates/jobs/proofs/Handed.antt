@@ -1,7 +1,7 @@
 -- What the covered part of a job hands over makes the job say what it should: of the gate list that needs only its length. Assumes nothing.
 use mathlib.Core.Path.{_≡_, refl, sym, ap, _∙_, subst}
 use mathlib.Core.Bool.{Bool, true, false, cond}
-use mathlib.Core.List.{List, [], _++_, append-nil}
+use mathlib.Core.List.{List, [], _∷_, _++_, append-nil}
 use Prim.Native.Nat.{ℕ, _-_, _≤_, _<_}
 use native.Mathlib.Omega.{arith}
 use lib.ListN.{length, take, drop, replicate, drop-of-length-le, length-take}
@@ -13,10 +13,10 @@ use Rattle.gates.specs.declared.Gate.the-variants.{Not}
 use Rattle.gates.specs.Code.{gates}
 use Rattle.gates.proofs.CodeLists.{length-gates, all-codes-take}
 use Rattle.records.specs.declared.Done.{Done}
-use Rattle.records.specs.Records.{finished, Fits}
+use Rattle.records.specs.Records.{filled-by}
 use Rattle.records.proofs.Walk_text_list_area.{Leads}
 use Rattle.text.specs.declared.Refusal.{Refusal}
-use Rattle.text.specs.declared.Refusal.the-variants.{ShortAnswer}
+use Rattle.text.specs.declared.Refusal.the-variants.{Overlong, ShortList, Malformed, NoSuchLine, Crossed, Unsorted, TooWide, NoSpare, TooMany, ShortAnswer}
 use Rattle.text.specs.declared.Head.{Head}
 use Rattle.text.specs.Refusals.{number-of}
 use Rattle.text.specs.declared.Kind.{Kind}
@@ -28,9 +28,11 @@ use Rattle.loading.specs.declared.Loaded.the-variants as loaded
 use Rattle.loading.specs.Seen.{seen-verdict}
 use Rattle.loading.specs.Loaded.{Renderable, LoadsTo}
 use Rattle.reduction.specs.Reducing.{ReducedTo}
-use Rattle.jobs.specs.Jobs.{Job, quoting, takes, as-text, as-count, output, writes, Exit, left, filled, refusal, judged, judged-text, size-rules, success, written, answered, Settled, Says}
+use Rattle.habits.specs.Habits as habits
+use Rattle.habits.specs.Habits.{size-rules, left, filled, all-filled, Judgement, fine, away, Lent, Answer}
+use Rattle.jobs.specs.Jobs.{Job, quoting, takes, as-text, as-count, output, writes, Exit, refusal, judged, judged-text, success, written, answered, Settled, Says}
 use Rattle.jobs.proofs.One.{text-passed, passed-valid}
-use Rattle.jobs.specs.Handing.{exit-of, Said, Hands, AcceptsReduced, LoadsReduced, refused, succeeded, text-of, written-done, written-area, text-done, text-area, count-done, Answerable}
+use Rattle.jobs.specs.Handing.{exit-of, Said, limit-of, Settles, Hands, AcceptsReduced, LoadsReduced, HandsTwo, refusal-filling, success-filling, refused, refused-two, succeeded-two, succeeded, text-of, written-done, written-area, text-done, text-area, count-done, Answerable}
 
 -- ---- the records
 
@@ -38,9 +40,10 @@ use Rattle.jobs.specs.Handing.{exit-of, Said, Hands, AcceptsReduced, Loa
 all-written : (x l : List Gate) (room : ℕ) → length l ≡ room → x ++ drop room l ≡ x
 all-written x l room e = ap (λ (t : List Gate). x ++ t) (drop-of-length-le l {i = room} (omega (arith, e))) ∙ append-nil x
 
-refused-list : (r : Refusal) (i room : ℕ) (codes : List ℕ) (l : List Gate) → length l ≡ room → finished (refused r i room codes) l ≡ left r l
-unfolding refused left
-refused-list r i room codes l e = go (leb (number-of r) 2)
+-- what a refusal leaves in a list
+pub refusal-list : (r : Refusal) (room : ℕ) (codes : List ℕ) (l : List Gate) → length l ≡ room → filled-by (refusal-filling r room codes) l ≡ left r l
+unfolding refusal-filling left
+refusal-list r room codes l e = go (leb (number-of r) 2)
   where
     go : (b : Bool) → (gates (take 0 codes) ++ replicate (cond b 0 room - 0) (Not 0)) ++ drop (cond b 0 room) l ≡ cond b l (replicate (length l) (Not 0))
     go true = refl
@@ -48,11 +51,38 @@ refused-list r i room codes l e = go (leb (number-of r) 2)
         let x : room - 0 ≡ length l = omega (arith, e) in
         all-written (replicate (room - 0) (Not 0)) l room e ∙ ap (λ (n : ℕ). replicate n (Not 0)) x
 
-filled-list : (m count room : ℕ) (codes : List ℕ) (l : List Gate) → m ≤ length codes → length l ≡ room → finished (succeeded m count room codes) l ≡ filled (gates (take m codes)) l
-unfolding succeeded filled
-filled-list m count room codes l h e =
+-- what success leaves in it
+pub success-list : (m room : ℕ) (codes : List ℕ) (l : List Gate) → m ≤ length codes → length l ≡ room → filled-by (success-filling m room codes) l ≡ filled (gates (take m codes)) l
+unfolding success-filling filled
+success-list m room codes l h e =
     let x : room - m ≡ length l - length (gates (take m codes)) = omega (arith, e, length-gates (take m codes), length-take m codes, h) in
     all-written (gates (take m codes) ++ replicate (room - m) (Not 0)) l room e ∙ ap (λ (n : ℕ). gates (take m codes) ++ replicate n (Not 0)) x
+
+-- 1 and 2 are refusals
+limit-refusal : (r : Refusal) (room : ℕ) → cond (leb (number-of r) 2) 0 room ≡ limit-of (number-of r) room
+unfolding limit-of
+limit-refusal Overlong room = refl
+limit-refusal ShortList room = refl
+limit-refusal Malformed room = refl
+limit-refusal NoSuchLine room = refl
+limit-refusal Crossed room = refl
+limit-refusal Unsorted room = refl
+limit-refusal TooWide room = refl
+limit-refusal NoSpare room = refl
+limit-refusal TooMany room = refl
+limit-refusal ShortAnswer room = refl
+
+pub refusal-settles : (r : Refusal) (room : ℕ) (codes : List ℕ) → Settles (number-of r) room (refusal-filling r room codes)
+unfolding refusal-filling
+refusal-settles r room codes = record { fits = record { there = omega arith; valid = tt; few = omega arith; within = go (leb (number-of r) 2) }; limit = limit-refusal r room }
+  where
+    go : (b : Bool) → cond b 0 room ≤ room
+    go true = omega arith
+    go false = omega arith
+
+pub success-settles : {h : Head} {m : ℕ} (room : ℕ) {codes : List ℕ} → Renderable h m codes → 4096 ≤ room → Settles 0 room (success-filling m room codes)
+unfolding success-filling limit-of
+success-settles room w l = record { fits = record { there = w .few; valid = w .codes; few = omega (arith, l, w .few); within = omega arith }; limit = refl }
 
 -- ---- the answer area
 
@@ -72,57 +102,48 @@ settled : (j : Job) (s a : List ℕ) (l : List Gate) {room : ℕ} {d : Judged} (
 unfolding Says judged
 settled j s a l x e q w = subst (λ (g : Judged). Settled j (record { text = s; list = l; area = a }) g x) (sym (ap (judged-text (takes j) s) e ∙ q)) w
 
-refused-fits : (r : Refusal) (i room : ℕ) (codes : List ℕ) → Fits (refused r i room codes) room
-unfolding refused
-refused-fits r i room codes = record { there = omega arith; valid = tt; few = omega arith; within = go (leb (number-of r) 2) }
-  where
-    go : (b : Bool) → cond b 0 room ≤ room
-    go true = omega arith
-    go false = omega arith
-
 -- what is handed over with a refusal leads to its exit
-refused-exit : (r : Refusal) (i room : ℕ) (s a codes : List ℕ) (l : List Gate) → length l ≡ room → exit-of (refused r i room codes .outcome) (finished (refused r i room codes) l) a ≡ refusal r i (record { text = s; list = l; area = a })
+refused-exit : (r : Refusal) (i room : ℕ) (s a codes : List ℕ) (l : List Gate) → length l ≡ room → exit-of (refused r i room codes .outcome) (filled-by (refused r i room codes .filling) l) a ≡ refusal r i (record { text = s; list = l; area = a })
 unfolding refusal refused
-refused-exit r i room s a codes l e = ap (λ (t : List Gate). record { number = number-of r; line = i; count = 0; list = t; area = a }) (refused-list r i room codes l e)
+refused-exit r i room s a codes l e = ap (λ (t : List Gate). record { number = number-of r; line = i; count = 0; list = t; area = a }) (refusal-list r room codes l e)
 
 -- a refusal by rules 1 to 9
 pub refused-hands : (j : Job) (s a codes : List ℕ) (room i : ℕ) (r : Refusal) → judged-text (takes j) s room ≡ turned-away r i → Hands j s room a (refused r i room codes) a
-unfolding Settled
-refused-hands j s a codes room i r q = record { fits = refused-fits r i room codes; tells = λ l e. settled j s a l _ e q (refused-exit r i room s a codes l e) }
+unfolding Settled refused
+refused-hands j s a codes room i r q = record { settles = refusal-settles r room codes; tells = λ l e. settled j s a l _ e q (refused-exit r i room s a codes l e) }
 
 -- ---- success
 
 -- of a text that was loaded into the codes
 module _ (j : Job) (s a codes : List ℕ) (room : ℕ) (h : Head) (m : ℕ) (all : length codes ≡ 4096) (w : AcceptsReduced (judged-text (takes j) s room) codes h m) where
   -- whatever leads to the answer by the loaded list
-  answers : (d : Done) (b : List ℕ) → Fits d room → ((l : List Gate) → length l ≡ room → exit-of (d .outcome) (finished d l) b ≡ answered j (record { text = s; list = l; area = a }) h (gates (take m codes))) → Hands j s room a d b
+  answers : (d : Done) (b : List ℕ) → Settles (d .outcome .number) room (d .filling) → ((l : List Gate) → length l ≡ room → exit-of (d .outcome) (filled-by (d .filling) l) b ≡ answered j (record { text = s; list = l; area = a }) h (gates (take m codes))) → Hands j s room a d b
   unfolding Settled
-  answers d b f q = record { fits = f; tells = λ l e. settled j s a l _ e (w .judged) (gates (take m codes), w .reduced, q l e) }
+  answers d b f q = record { settles = f; tells = λ l e. settled j s a l _ e (w .judged) (gates (take m codes), w .reduced, q l e) }
 
-  succeeded-fits : (count : ℕ) → Fits (succeeded m count room codes) room
-  unfolding succeeded
-  succeeded-fits count = record { there = w .renderable .few; valid = w .renderable .codes; few = omega (arith, text-passed (takes j) s room (w .judged) .room, w .renderable .few); within = omega arith }
+  settles : Settles 0 room (success-filling m room codes)
+  settles = success-settles room (w .renderable) (text-passed (takes j) s room (w .judged) .room)
 
   -- what is handed over with success leads to its exit
-  succeeded-exit : (n count : ℕ) (b : List ℕ) (l : List Gate) → length l ≡ room → count ≡ n → exit-of (succeeded m count room codes .outcome) (finished (succeeded m count room codes) l) b ≡ success (record { text = s; list = l; area = a }) (gates (take m codes)) n b
+  succeeded-exit : (n count : ℕ) (b : List ℕ) (l : List Gate) → length l ≡ room → count ≡ n → exit-of (succeeded m count room codes .outcome) (filled-by (succeeded m count room codes .filling) l) b ≡ success (record { text = s; list = l; area = a }) (gates (take m codes)) n b
   unfolding succeeded
   succeeded-exit n count b l e k =
-      ap (λ (t : List Gate). record { number = 0; line = 0; count = count; list = t; area = b }) (filled-list m count room codes l (omega (arith, w .renderable .few, all)) e)
+      ap (λ (t : List Gate). record { number = 0; line = 0; count = count; list = t; area = b }) (success-list m room codes l (omega (arith, w .renderable .few, all)) e)
       ∙ ap (λ (i : ℕ). record { number = 0; line = 0; count = i; list = filled (gates (take m codes)) l; area = b }) k
 
   -- quote
   pub quoted-hands : output j ≡ as-count → Hands j s room a (succeeded m m room codes) a
-  unfolding answered
-  quoted-hands i = answers (succeeded m m room codes) a (succeeded-fits m) (λ l e. rw i (succeeded-exit (length (gates (take m codes))) m a l e (omega (arith, length-gates (take m codes), length-take m codes, w .renderable .few, all))))
+  unfolding answered succeeded
+  quoted-hands i = answers (succeeded m m room codes) a settles (λ l e. rw i (succeeded-exit (length (gates (take m codes))) m a l e (omega (arith, length-gates (take m codes), length-take m codes, w .renderable .few, all))))
 
   -- map and reduce
   pub written-hands : output j ≡ as-text → Hands j s room a (written-done h m room codes a) (written-area h m codes a)
-  unfolding written-done written-area written answered
+  unfolding written-done written-area written answered refused succeeded
   written-hands i = go (ltb (length a) (length (text-of h m codes))) refl
     where
       go : (b : Bool) → ltb (length a) (length (text-of h m codes)) ≡ b → Hands j s room a (cond b (refused ShortAnswer 0 room codes) (succeeded m (length (text-of h m codes)) room codes)) (cond b a (text-of h m codes ++ drop (length (text-of h m codes)) a))
-      go true q = answers (refused ShortAnswer 0 room codes) a (refused-fits ShortAnswer 0 room codes) (λ l e. rw (i, q) (refused-exit ShortAnswer 0 room s a codes l e))
-      go false q = answers (succeeded m (length (text-of h m codes)) room codes) (text-of h m codes ++ drop (length (text-of h m codes)) a) (succeeded-fits (length (text-of h m codes)))
+      go true q = answers (refused ShortAnswer 0 room codes) a (refusal-settles ShortAnswer room codes) (λ l e. rw (i, q) (refused-exit ShortAnswer 0 room s a codes l e))
+      go false q = answers (succeeded m (length (text-of h m codes)) room codes) (text-of h m codes ++ drop (length (text-of h m codes)) a) settles
           (λ l e. rw (i, q) (succeeded-exit (length (text-of h m codes)) (length (text-of h m codes)) _ l e refl))
 
 -- ---- a text that was loaded, and its circuit reduced
@@ -169,10 +190,43 @@ count-hands s codes room (loaded.Refused r l) e w = refused-hands quoting s [] c
 -- ---- to the thin function above it
 
 pub leads : (j : Job) → Leads (Hands j) (Said j)
-leads j = record { fits = λ s n a d b h. h .fits; tells = λ s l a d b h. h .tells l refl }
+leads j = record { fits = λ s n a d b h. h .settles .fits; tells = λ s l a d b h. h .tells l refl }
+
+-- ---- jobs over two gate lists, without an answer area
+
+-- what is judged by the lengths of the lists, and the answers that are right for it
+module _ {A : Type 0} (judged-by : ℕ → ℕ → Judgement A) (Right : A → Answer → Type 0) where
+  abbrev lent : List Gate → List Gate → Lent
+  lent l k = record { lists = l ∷ k ∷ []; area = [] }
+
+  abbrev SaysTwo : List Gate → List Gate → habits.Exit → Type 0
+  SaysTwo l k x = habits.Says (judged-by (length l) (length k)) Right (lent l k) x
+
+  -- of every two lists of these lengths the texts are judged the same
+  says-two : (l k : List Gate) {room room′ : ℕ} {v : Judgement A} (x : habits.Exit) → length l ≡ room → length k ≡ room′ → judged-by room room′ ≡ v → habits.Says v Right (lent l k) x → SaysTwo l k x
+  says-two l k x e f q w = subst (λ (u : Judgement A). habits.Says u Right (lent l k) x) (sym (rw (e, f) q)) w
+
+  pub refused-two-hands : (r : Refusal) (t i room room′ : ℕ) (codes codes′ : List ℕ) → judged-by room room′ ≡ away r t i → HandsTwo SaysTwo room room′ (refused-two r t i room room′ codes codes′)
+  unfolding refused-two habits.Says habits.refusal
+  refused-two-hands r t i room room′ codes codes′ q = record {
+    first = refusal-settles r room codes;
+    second = refusal-settles r room′ codes′;
+    tells = λ l k e f. says-two l k _ e f q (rw (refusal-list r room codes l e, refusal-list r room′ codes′ k f));
+  }
+
+  pub succeeded-two-hands : {g h : Head} (m n count room room′ : ℕ) (codes codes′ : List ℕ) (a : A) → judged-by room room′ ≡ fine a
+      → Right a (record { count = count; circuits = gates (take m codes) ∷ gates (take n codes′) ∷ []; text = [] })
+      → length codes ≡ 4096 → length codes′ ≡ 4096 → Renderable g m codes → Renderable h n codes′ → 4096 ≤ room → 4096 ≤ room′
+      → HandsTwo SaysTwo room room′ (succeeded-two m n count room room′ codes codes′)
+  unfolding succeeded-two habits.Says habits.answered habits.success all-filled
+  succeeded-two-hands m n count room room′ codes codes′ a q right all all′ w w′ b b′ = record {
+    first = success-settles room w b;
+    second = success-settles room′ w′ b′;
+    tells = λ l k e f. says-two l k _ e f q (_, right, rw (success-list m room codes l (omega (arith, w .few, all)) e, success-list n room′ codes′ k (omega (arith, w′ .few, all′)) f));
+  }
 
 -- ---- rules 1 and 2
 
-pub sized : (k : Kind) (s : List ℕ) (room : ℕ) {v w : Verdict} → v ≡ w → seen-verdict v ≡ first (size-rules (length s) room) → judged-text k s room ≡ or-else (seen-verdict w) 0 (judge k s)
+pub sized : (k : Kind) (s : List ℕ) (room : ℕ) {v w : Verdict} → v ≡ w → seen-verdict v ≡ first (size-rules (length s) (room ∷ [])) → judged-text k s room ≡ or-else (seen-verdict w) 0 (judge k s)
 unfolding judged-text
 sized k s room e q = rw (← q, ← e)

@@ -1,4 +1,5 @@
 -- The laws and theorems of this crate, in reading order.
+pub mod Habits
 pub mod One
 pub mod Demands
 pub mod Numbers

@@ -1,22 +1,20 @@
 -- For every entry there is exactly one exit that a job's contract allows. Assumes nothing.
 use mathlib.Core.Path.{_≡_, refl, sym, ap, _∙_, subst}
-use mathlib.Core.Bool.{Bool, true, false}
-use mathlib.Core.List.{List, [], _∷_}
+use mathlib.Core.List.{List}
 use Prim.Native.Nat.{ℕ, _≤_}
 use lib.ListN.{length}
-use lib.Dec.{ltb}
-use borrow.Author.Tests.{ltb-false}
 use Rattle.gates.specs.declared.Gate.{Gate}
 use Rattle.gates.specs.Circuit.{AllValid}
 use Rattle.gates.specs.Reduced.{Reduced}
 use Rattle.gates.proofs.Theorem.{nf, reduced-unique}
 use Rattle.gates.proofs.ReducedLists.{one-reduced-list, reduced-is-nf}
 use Rattle.text.specs.declared.Head.{Head}
-use Rattle.text.specs.declared.Refusal.the-variants.{Overlong, ShortList}
 use Rattle.text.specs.declared.Kind.{Kind}
-use Rattle.text.specs.Judging.{Judged, turned-away, accepted, rule, first, or-else, judge}
-use Rattle.jobs.specs.Jobs.{Job, takes, Entry, Exit, refusal, judged, judged-text, size-rules, answered, Settled, Says}
-use Rattle.text.proofs.Accepted.{Text, away-accepted, accepted-head, accepted-circuit, judge-accepted, text-valid}
+use Rattle.text.specs.Judging.{Judged, turned-away, accepted}
+use Rattle.text.proofs.Accepted.{Text, accepted-head, accepted-circuit, judge-accepted, text-valid}
+use Rattle.habits.specs.Demands.{One}
+use Rattle.jobs.specs.Jobs.{Job, takes, Entry, refusal, judged, judged-text, answered, Settled, Says}
+use Rattle.jobs.proofs.Habits.{judged-accepts}
 
 -- what rules 1 and 2 let pass: a text, for a gate list of this many records
 pub record Passed (k : Kind) (s : List ℕ) (records : ℕ) (h : Head) (c : List Gate) : Type 0 where
@@ -25,13 +23,7 @@ pub record Passed (k : Kind) (s : List ℕ) (records : ℕ) (h : Head) (c : List
   pub text : Text k (h .lines) s c
 
 pub text-passed : (k : Kind) (s : List ℕ) (records : ℕ) {h : Head} {c : List Gate} → judged-text k s records ≡ accepted h c → Passed k s records h c
-unfolding judged-text size-rules first or-else
-text-passed k s records {h} {c} q = go _ (ltb 60000 (length s)) refl (ltb records 4096) refl q
-  where
-    go : (l : ℕ) (a : Bool) → ltb 60000 (length s) ≡ a → (b : Bool) → ltb records 4096 ≡ b → or-else (first (rule Overlong a ∷ rule ShortList b ∷ [])) l (judge k s) ≡ accepted h c → Passed k s records h c
-    go l true p b r z = absurd (away-accepted z)
-    go l false p true r z = absurd (away-accepted z)
-    go l false p false r z = record { small = ltb-false 60000 (length s) p; room = ltb-false records 4096 r; text = judge-accepted k s z }
+text-passed k s records q = let a = judged-accepts k s records q in record { small = a .sized .small; room = a .sized .room .0; text = judge-accepted k s (a .judged) }
 
 pub judged-accepted : (k : Kind) (e : Entry) {h : Head} {c : List Gate} → judged k e ≡ accepted h c → Passed k (e .text) (length (e .list)) h c
 unfolding judged
@@ -51,17 +43,15 @@ is-nf {n} {c} {r} v w = sym (reduced-is-nf n c r v .0 w)
 
 -- ---- the one exit
 
-unfoldable pub Only : Job → Entry → Judged → Type 0
-Only j e d = (x : Exit) × Settled j e d x × ((y : Exit) → Settled j e d y → y ≡ x)
-
-only : (j : Job) (e : Entry) (d : Judged) → judged (takes j) e ≡ d → Only j e d
-unfolding Only Settled
+-- by what its text was judged to be
+only : (j : Job) (e : Entry) (d : Judged) → judged (takes j) e ≡ d → One (Settled j e d)
+unfolding Settled
 only j e (turned-away r l) q = (refusal r l e, refl, λ y h. h)
 only j e (accepted h c) q =
     let y = one-reduced-list (h .lines) c (passed-valid (judged-accepted (takes j) e q)) in
     (answered j e h (y .0), (y .0, y .1, refl), λ x z. z .2 ∙ ap (answered j e h) (sym (y .2 (z .0) (z .1))))
 
 -- the contract binds completely
-pub says-one : (j : Job) (e : Entry) → (x : Exit) × Says j e x × ((y : Exit) → Says j e y → y ≡ x)
-unfolding Says Only
+pub says-one : (j : Job) (e : Entry) → One (Says j e)
+unfolding Says
 says-one j e = only j e (judged (takes j) e) refl

@@ -28,13 +28,14 @@ use Rattle.text.specs.declared.Kind.{Kind}
 use Rattle.text.specs.Judging.{Judged, turned-away, accepted, belongs, most, any-from, rising, first, head-rules, rules, or-else, judge-lines, judge-text, read-all, judge}
 use Rattle.jobs.specs.Jobs.{Job, takes, Output, as-text, as-count, output, Entry, Exit, refusal, judged, written, put-out, answered, Says}
 use Rattle.jobs.specs.Examples.{typed, Answer, text, gates, away, Row, gives, expands, Shows, room, Correct, table}
+use Rattle.jobs.proofs.Habits.{judged-sized}
 use Rattle.jobs.proofs.One.{judged-accepted, passed-valid, is-nf}
 use Rattle.jobs.proofs.Demands.{says-accepted, says-turned-away, area-front}
-use Rattle.jobs.proofs.Numbers.{judged-sized}
 
 -- rules 1 and 2 let a short text and a long list pass
 judged-is : (k : Kind) (e : Entry) (s : List ℕ) → e .text ≡ s → length s ≤ 60000 → 4096 ≤ length (e .list) → judged k e ≡ judge k s
-judged-is k e s q h l = judged-sized k e (record { small = rw q h; room = l }) ∙ ap (judge k) q
+unfolding judged
+judged-is k e s q h l = judged-sized k (e .text) (length (e .list)) (record { small = rw q h; room = (l, tt) }) ∙ ap (judge k) q
 
 -- the answer is computed from the normal form
 answered-nf : (j : Job) (e : Entry) {h : Head} {c r : List Gate} {x : Exit} → judged (takes j) e ≡ accepted h c → Reduced (h .lines) c r → x ≡ answered j e h r → x ≡ answered j e h (nf c)

@@ -10,13 +10,12 @@ use Rattle.gates.specs.Circuit.{Linked}
 use Rattle.gates.specs.Reduced.{Reduced}
 use Rattle.meaning.specs.State.{SameMatrix}
 use Rattle.cascades.specs.Cascade.{Controlled, expand-all, Realises}
-use Rattle.text.specs.declared.Refusal.{Refusal}
 use Rattle.text.specs.declared.Head.{Head}
-use Rattle.text.specs.Refusals.{number-of}
 use Rattle.text.specs.Text.{lines, gate, as-forms, AllProper, cascade-text, circuit-text}
 use Rattle.text.specs.declared.Kind.{Kind}
 use Rattle.text.specs.declared.Kind.the-variants.{Cascade, Circuit}
-use Rattle.text.specs.Judging.{accepted, turned-away, judge}
+use Rattle.text.specs.Judging.{accepted, judge}
+use Rattle.habits.specs.Demands.{Sized, Refuses, Accepts}
 use Rattle.jobs.specs.Jobs.{Job, quoting, takes, Output, as-text, as-count, output, Entry, Exit, judged, Says}
 
 -- ---- the list that a job gives
@@ -46,26 +45,16 @@ pub record Ran (n : ℕ) (c r : List Gate) : Type 0 where
 
 -- ---- demand 1: every call answers, and the numbers are the table's
 
--- the text and the gate list that rules 1 and 2 let pass
-pub record Sized (e : Entry) : Type 0 where
-  pub small : length (e .text) ≤ 60000
-  pub room : 4096 ≤ length (e .list)
-
 -- the text that rules 1 to 9 let pass: its head, and "the reduced list of the circuit read or expanded"
 pub record Yields (j : Job) (e : Entry) (h : Head) (r : List Gate) : Type 0 where
-  pub sized : Sized e
   pub circuit : List Gate
-  pub passed : judge (takes j) (e .text) ≡ accepted h circuit
+  pub accepts : Accepts (takes j) (e .text) (length (e .list) ∷ []) h circuit
   pub reduced : Reduced (h .lines) circuit r
 
 -- the table of numbers, "Given exactly if", each with its line
 pub data Due (j : Job) (e : Entry) : ℕ → ℕ → Type 0 where
-  -- "text over 60,000 bytes": "Rule 1 comes first, then 2, both with line 0"
-  overlong : 60000 < length (e .text) → Due j e 1 0
-  -- "gate list under 4,096 records"
-  short-list : length (e .text) ≤ 60000 → length (e .list) < 4096 → Due j e 2 0
-  -- "Then the lines in order, each whole line tried against 3 to 9 in that order; the first failing line, counted from 1, is returned"
-  failing-line : (r : Refusal) (l : ℕ) → Sized e → judge (takes j) (e .text) ≡ turned-away r l → 3 ≤ number-of r → number-of r ≤ 9 → 1 ≤ l → Due j e (number-of r) l
+  -- 1 to 9: by the table of one text (crate habits), with which the gate list is judged
+  refused : {n l : ℕ} → Refuses (takes j) (e .text) (length (e .list) ∷ []) n l → Due j e n l
   -- "map or reduce: answer text longer than its area": "Then 10, line 0"
   short-answer : (h : Head) (r : List Gate) → Yields j e h r → output j ≡ as-text → length (e .area) < length (circuit-text (h .lines) r) → Due j e 10 0
   -- success: "Number 0, line 0"
@@ -99,7 +88,7 @@ pub record Demand1 (j : Job) (e : Entry) (x : Exit) : Type 0 where
   -- a number is given, with its line, exactly if the table says so
   pub by-table : (n l : ℕ) → ((x .number ≡ n) × (x .line ≡ l)) ↔ Due j e n l
   -- "an empty text gives line 1"
-  pub empty : Sized e → e .text ≡ [] → (x .number ≡ 3) × (x .line ≡ 1)
+  pub empty : Sized (e .text) (length (e .list) ∷ []) → e .text ≡ [] → (x .number ≡ 3) × (x .line ≡ 1)
   pub refusal-leaves : 1 ≤ x .number → RefusalLeaves e x
   pub success-leaves : x .number ≡ 0 → (h : Head) × (r : List Gate) × Yields j e h r × SuccessLeaves j e x h r
   -- as many records and bytes as were lent

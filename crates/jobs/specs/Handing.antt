@@ -1,17 +1,20 @@
 -- What the covered part of a job, which sees only the length of the lent gate list, hands over to the thin function above it. Assumes nothing.
 use mathlib.Core.Path.{_≡_}
 use mathlib.Core.Bool.{cond}
-use mathlib.Core.List.{List, _++_}
+use mathlib.Core.List.{List, [], _∷_, _++_}
 use Prim.Native.Nat.{ℕ}
 use lib.ListN.{length, take, drop, replicate}
-use lib.Dec.{leb, ltb}
+use lib.Dec.{eqb, leb, ltb}
 use Rattle.gates.specs.declared.Gate.{Gate}
 use Rattle.gates.specs.declared.Gate.the-variants.{Not}
 use Rattle.gates.specs.Reduced.{Reduced}
 use Rattle.gates.specs.Code.{gates}
 use Rattle.records.specs.declared.Done.{Done}
+use Rattle.records.specs.declared.DoneTwo.{DoneTwo}
+use Rattle.records.specs.declared.TextOutcome.{TextOutcome}
+use Rattle.records.specs.declared.Filling.{Filling}
 use Rattle.records.specs.declared.Outcome.{Outcome}
-use Rattle.records.specs.Records.{finished, Fits}
+use Rattle.records.specs.Records.{filled-by, Fits}
 use Rattle.text.specs.declared.Refusal.{Refusal}
 use Rattle.text.specs.declared.Refusal.the-variants.{ShortAnswer}
 use Rattle.text.specs.declared.Head.{Head}
@@ -21,6 +24,7 @@ use Rattle.text.specs.Judging.{Judged, turned-away, accepted}
 use Rattle.loading.specs.Loaded.{Renderable}
 use Rattle.loading.specs.declared.Loaded.{Loaded}
 use Rattle.loading.specs.declared.Loaded.the-variants as loaded
+use Rattle.habits.specs.Habits as habits
 use Rattle.jobs.specs.Jobs.{Job, Exit, Says}
 
 -- the exit with this outcome, this list and this area
@@ -31,10 +35,29 @@ exit-of o l a = record { number = o .number; line = o .line; count = o .count; l
 abbrev pub Said : Job → List ℕ → List Gate → List ℕ → Outcome → List Gate → List ℕ → Type 0
 Said j s l a o l′ a′ = Says j (record { text = s; list = l; area = a }) (exit-of o l′ a′)
 
+-- how many of so many records are written with this number: none with 1 and 2, else all
+unfoldable pub limit-of : ℕ → ℕ → ℕ
+limit-of number room = cond (eqb number 1) 0 (cond (eqb number 2) 0 room)
+
+-- what is handed over for a list of so many records, with this number, can be written into it, and settles which records are written
+pub record Settles (number room : ℕ) (f : Filling) : Type 0 where
+  pub fits : Fits f room
+  pub limit : f .limit ≡ limit-of number room
+
 -- what the covered part promises: it is given only the length of the gate list, and the job says it of every list of that length
 pub record Hands (j : Job) (s : List ℕ) (room : ℕ) (a : List ℕ) (d : Done) (a′ : List ℕ) : Type 0 where
-  pub fits : Fits d room
-  pub tells : (l : List Gate) → length l ≡ room → Said j s l a (d .outcome) (finished d l) a′
+  pub settles : Settles (d .outcome .number) room (d .filling)
+  pub tells : (l : List Gate) → length l ≡ room → Said j s l a (d .outcome) (filled-by (d .filling) l) a′
+
+-- the same of a job over several texts and two gate lists, without an answer area: its exit with this outcome and these lists
+abbrev pub exit-of-two : TextOutcome → List Gate → List Gate → habits.Exit
+exit-of-two o l k = record { number = o .number; line = o .line; text = o .text; count = o .count; lent = record { lists = l ∷ k ∷ []; area = [] } }
+
+-- and what its covered part promises, where it is to say `Says` of the two lists
+pub record HandsTwo (Says : List Gate → List Gate → habits.Exit → Type 0) (room room′ : ℕ) (d : DoneTwo) : Type 0 where
+  pub first : Settles (d .outcome .number) room (d .first)
+  pub second : Settles (d .outcome .number) room′ (d .second)
+  pub tells : (l k : List Gate) → length l ≡ room → length k ≡ room′ → Says l k (exit-of-two (d .outcome) (filled-by (d .first) l) (filled-by (d .second) k))
 
 -- what a job says where it works on a list of 4,096 records of the function's own
 abbrev pub Own : Job → List ℕ → List ℕ → Outcome → List ℕ → Type 0
@@ -56,13 +79,37 @@ LoadsReduced j codes (loaded.Refused r l) = j ≡ turned-away r l
 
 -- ---- what is handed over
 
--- a refusal: no gates; 1 and 2 write no record, the others write all
+-- for a list of so many records, with a refusal: no gates; 1 and 2 write no record, the others write all
+unfoldable pub refusal-filling : Refusal → ℕ → List ℕ → Filling
+refusal-filling r room codes = record { codes = codes; gates = 0; limit = cond (leb (number-of r) 2) 0 room }
+
+-- with success: the first m codes, and every later record
+unfoldable pub success-filling : ℕ → ℕ → List ℕ → Filling
+success-filling m room codes = record { codes = codes; gates = m; limit = room }
+
+-- a refusal at line l
 unfoldable pub refused : Refusal → ℕ → ℕ → List ℕ → Done
-refused r l room codes = record { codes = codes; gates = 0; limit = cond (leb (number-of r) 2) 0 room; outcome = record { number = number-of r; line = l; count = 0 } }
+refused r l room codes = record { filling = refusal-filling r room codes; outcome = record { number = number-of r; line = l; count = 0 } }
 
 -- success with the first m codes, and this count
 unfoldable pub succeeded : ℕ → ℕ → ℕ → List ℕ → Done
-succeeded m count room codes = record { codes = codes; gates = m; limit = room; outcome = record { number = 0; line = 0; count = count } }
+succeeded m count room codes = record { filling = success-filling m room codes; outcome = record { number = 0; line = 0; count = count } }
+
+-- a refusal of a job over two gate lists, at line l of text t
+unfoldable pub refused-two : Refusal → (text line : ℕ) → ℕ → ℕ → List ℕ → List ℕ → DoneTwo
+refused-two r t l room room′ codes codes′ = record {
+  first = refusal-filling r room codes;
+  second = refusal-filling r room′ codes′;
+  outcome = record { number = number-of r; line = l; text = t; count = 0 };
+}
+
+-- its success with the first m codes in the first list, the first n in the second, and this count
+unfoldable pub succeeded-two : ℕ → ℕ → ℕ → ℕ → ℕ → List ℕ → List ℕ → DoneTwo
+succeeded-two m n count room room′ codes codes′ = record {
+  first = success-filling m room codes;
+  second = success-filling n room′ codes′;
+  outcome = record { number = 0; line = 0; text = 0; count = count };
+}
 
 -- the first m codes as a text
 abbrev pub text-of : Head → ℕ → List ℕ → List ℕ

@@ -1,22 +1,22 @@
 -- What each of the three jobs says: number, line, count, and each record and byte lent to it, for all inputs (document 01, "Lent memory and
--- the ten numbers"). Assumes nothing.
-use Prim.Native.Nat.{ℕ, _-_}
+-- the ten numbers"), by the habits that every job keeps (crate habits). Assumes nothing.
+use Prim.Native.Nat.{ℕ}
 use mathlib.Core.Path.{_≡_}
 use mathlib.Core.Bool.{cond}
 use mathlib.Core.List.{List, [], _∷_, _++_}
-use lib.ListN.{length, drop, replicate}
-use lib.Dec.{leb, ltb}
+use lib.ListN.{length, drop}
+use lib.Dec.{ltb}
 use Rattle.gates.specs.declared.Gate.{Gate}
-use Rattle.gates.specs.declared.Gate.the-variants.{Not}
 use Rattle.gates.specs.Reduced.{Reduced}
 use Rattle.text.specs.declared.Refusal.{Refusal}
-use Rattle.text.specs.declared.Refusal.the-variants.{Overlong, ShortList, ShortAnswer}
+use Rattle.text.specs.declared.Refusal.the-variants.{ShortAnswer}
 use Rattle.text.specs.declared.Head.{Head}
 use Rattle.text.specs.Refusals.{number-of}
 use Rattle.text.specs.Text.{circuit-text}
 use Rattle.text.specs.declared.Kind.{Kind}
 use Rattle.text.specs.declared.Kind.the-variants.{Cascade, Circuit}
-use Rattle.text.specs.Judging.{Judged, turned-away, accepted, Rule, rule, first, or-else, judge}
+use Rattle.text.specs.Judging.{Judged, turned-away, accepted, first, or-else, judge}
+use Rattle.habits.specs.Habits.{left, filled, size-rules}
 
 -- map a cascade text to a circuit text, reduce a circuit text, quote the gate count of a cascade
 pub data Job : Type 0 where
@@ -58,36 +58,23 @@ pub record Exit : Type 0 where
 
 -- ---- a refusal
 
--- "Numbers 1 and 2 leave the gate list unchanged; the others leave `not 0` in every record"
-unfoldable pub left : Refusal → List Gate → List Gate
-left r l = cond (leb (number-of r) 2) l (replicate (length l) (Not 0))
-
--- "A refusal returns its number, its line and count 0. It leaves the answer area unchanged"
+-- "A refusal returns its number, its line and count 0. It leaves the answer area unchanged"; `left` says what it leaves of the gate list
 unfoldable pub refusal : Refusal → ℕ → Entry → Exit
 refusal r l e = record { number = number-of r; line = l; count = 0; list = left r (e .list); area = e .area }
 
 -- ---- rules 1 to 9: "Rule 1 comes first, then 2, both with line 0. Then the lines in order"
 
--- for a text of this size and a gate list of this many records
-unfoldable pub size-rules : ℕ → ℕ → List Rule
-size-rules size records =
-    rule Overlong (ltb 60000 size)
-    ∷ rule ShortList (ltb records 4096)
-    ∷ []
-
+-- the text s, with which a gate list of this many records is judged
 unfoldable pub judged-text : Kind → List ℕ → ℕ → Judged
-judged-text k s records = or-else (first (size-rules (length s) records)) 0 (judge k s)
+judged-text k s records = or-else (first (size-rules (length s) (records ∷ []))) 0 (judge k s)
 
 unfoldable pub judged : Kind → Entry → Judged
 judged k e = judged-text k (e .text) (length (e .list))
 
 -- ---- success: number 0, line 0 and a count; "Then 10, line 0"
 
--- "the gate list holds first the reduced list of the circuit read or expanded, and `not 0` in every later record"
-unfoldable pub filled : List Gate → List Gate → List Gate
-filled r l = r ++ replicate (length l - length r) (Not 0)
-
--- with this count and this area
+-- "the gate list holds first the reduced list of the circuit read or expanded, and `not 0` in every later record": here r, with this count and
+-- this area
 abbrev pub success : Entry → List Gate → ℕ → List ℕ → Exit
 success e r n a = record { number = 0; line = 0; count = n; list = filled r (e .list); area = a }
 

@@ -1,5 +1,6 @@
 -- The definitions of this crate, in reading order.
 pub mod Jobs
+pub mod Habits
 pub mod Demands
 pub mod Examples
 pub mod Handing

@@ -3,21 +3,25 @@ use gates::Gate;
 use loading::Loaded;
 use loading::Verdict;
 use records::Done;
+use records::DoneTwo;
+use records::Filling;
 use records::Outcome;
+use records::TextOutcome;
 use text::Head;
 use text::Kind;
 use text::Refusal;
 ghost use mathlib.Core.Path.{_≡_};
 ghost use mathlib.Core.Bool.{cond};
-ghost use mathlib.Core.List.{[]};
+ghost use mathlib.Core.List.{[], _∷_};
 ghost use Prim.Native.Nat.{_≤_};
 ghost use lib.Dec.{leb};
 ghost use lib.ListN.{length};
 ghost use Rattle.text.specs.Judging.{first};
 ghost use Rattle.loading.specs.Seen.{seen-verdict};
 ghost use Rattle.loading.specs.Loaded.{Renderable, LoadsTo};
-ghost use Rattle.jobs.specs.Jobs.{mapping, reducing, quoting, writes, size-rules, judged-text, Says};
-ghost use Rattle.jobs.specs.Handing.{LoadsReduced, Hands, Own, refused, succeeded, written-done, written-area, text-done, text-area, count-done, Answerable};
+ghost use Rattle.habits.specs.Habits.{size-rules};
+ghost use Rattle.jobs.specs.Jobs.{mapping, reducing, quoting, writes, judged-text, Says};
+ghost use Rattle.jobs.specs.Handing.{LoadsReduced, Hands, Own, refusal-filling, success-filling, refused, refused-two, succeeded-two, succeeded, written-done, written-area, text-done, text-area, count-done, Answerable};
 
 // How many records a refusal writes: none for 1 and 2, else all.
 fn limit(number: u8, room: usize) -> usize
@@ -29,20 +33,92 @@ fn limit(number: u8, room: usize) -> usize
     room
 }
 
+// What a refusal leaves in a gate list of `room` records: no gates.
+fn refuse_list(r: Refusal, room: usize, codes: [u16; 4096]) -> Filling
+    ensures { λ f. ⌜ f ≡ refusal-filling r room codes ⌝ }
+{
+    let number = text::number(r);
+    Filling {
+        codes,
+        gates: 0,
+        limit: limit(number, room),
+    }
+}
+
+// What success leaves in it: the gates of the first m codes.
+fn succeed_list(m: usize, room: usize, codes: [u16; 4096]) -> Filling
+    ensures { λ f. ⌜ f ≡ success-filling m room codes ⌝ }
+{
+    Filling {
+        codes,
+        gates: m,
+        limit: room,
+    }
+}
+
 // A refusal, with its line.
 fn refuse(r: Refusal, line: usize, room: usize, codes: [u16; 4096]) -> Done
     ensures { λ d. ⌜ d ≡ refused r line room codes ⌝ }
 {
-    let number = text::number(r);
+    let filling = refuse_list(r, room, codes);
     let outcome = Outcome {
-        number,
+        number: text::number(r),
         line,
         count: 0,
     };
-    Done {
-        codes,
-        gates: 0,
-        limit: limit(number, room),
+    Done { filling, outcome }
+}
+
+// A refusal of a job over two gate lists, at a line of the text of this number.
+pub fn refuse_two(
+    r: Refusal,
+    text: u8,
+    line: usize,
+    room: usize,
+    room2: usize,
+    codes: [u16; 4096],
+    codes2: [u16; 4096],
+) -> DoneTwo
+    ensures { λ d. ⌜ d ≡ refused-two r text line room room2 codes codes2 ⌝ }
+{
+    let first = refuse_list(r, room, codes);
+    let second = refuse_list(r, room2, codes2);
+    let outcome = TextOutcome {
+        number: text::number(r),
+        line,
+        text,
+        count: 0,
+    };
+    DoneTwo {
+        first,
+        second,
+        outcome,
+    }
+}
+
+// Its success, with the first m codes, the first n, and a count.
+pub fn succeed_two(
+    m: usize,
+    n: usize,
+    count: usize,
+    room: usize,
+    room2: usize,
+    codes: [u16; 4096],
+    codes2: [u16; 4096],
+) -> DoneTwo
+    ensures { λ d. ⌜ d ≡ succeeded-two m n count room room2 codes codes2 ⌝ }
+{
+    let first = succeed_list(m, room, codes);
+    let second = succeed_list(n, room2, codes2);
+    let outcome = TextOutcome {
+        number: 0,
+        line: 0,
+        text: 0,
+        count,
+    };
+    DoneTwo {
+        first,
+        second,
         outcome,
     }
 }
@@ -51,17 +127,13 @@ fn refuse(r: Refusal, line: usize, room: usize, codes: [u16; 4096]) -> Done
 fn succeed(m: usize, count: usize, room: usize, codes: [u16; 4096]) -> Done
     ensures { λ d. ⌜ d ≡ succeeded m count room codes ⌝ }
 {
+    let filling = succeed_list(m, room, codes);
     let outcome = Outcome {
         number: 0,
         line: 0,
         count,
     };
-    Done {
-        codes,
-        gates: m,
-        limit: room,
-        outcome,
-    }
+    Done { filling, outcome }
 }
 
 // The first m codes written as a circuit text, where the answer area has room for it.
@@ -100,7 +172,7 @@ fn count_loaded(loaded: Loaded, room: usize, codes: [u16; 4096]) -> Done
 
 // Rules 1 and 2, for a text of this size and a gate list of `room` records.
 fn size_rules(size: usize, room: usize) -> Verdict
-    ensures { λ r. ⌜ seen-verdict r ≡ first (size-rules size room) ⌝ }
+    ensures { λ r. ⌜ seen-verdict r ≡ first (size-rules size (room ∷ [])) ⌝ }
 {
     if 60000 < size {
         return Verdict::Breaks(Refusal::Overlong);
@@ -112,7 +184,7 @@ fn size_rules(size: usize, room: usize) -> Verdict
 }
 
 // Loads a text of this kind, where the gate list has `room` records.
-fn load_text(kind: Kind, text: &[u8], room: usize, codes: &mut [u16]) -> Loaded
+pub fn load_text(kind: Kind, text: &[u8], room: usize, codes: &mut [u16]) -> Loaded
     requires { ⌜ 4096 ≤ length (now codes) ⌝ }
     ensures { λ r. ⌜ LoadsTo (judged-text kind (now (text .entry)) room) (now (codes .exit)) r ⌝ }
 {
@@ -123,7 +195,7 @@ fn load_text(kind: Kind, text: &[u8], room: usize, codes: &mut [u16]) -> Loaded
 }
 
 // Loads a text so, and reduces its circuit.
-fn load_reduced(kind: Kind, text: &[u8], room: usize, codes: &mut [u16]) -> Loaded
+pub fn load_reduced(kind: Kind, text: &[u8], room: usize, codes: &mut [u16]) -> Loaded
     requires { ⌜ 4096 ≤ length (now codes) ⌝ }
     ensures { λ r. ⌜ LoadsReduced (judged-text kind (now (text .entry)) room) (now (codes .exit)) r ⌝ }
 {
@@ -172,7 +244,8 @@ pub fn map(text: &[u8], list: &mut [Gate], answer: &mut [u8]) -> Outcome
     ensures { λ r. ⌜ Says mapping (record { text = now (text .entry); list = now (list .entry); area = now (answer .entry) }) (record { number = r .number; line = r .line; count = r .count; list = now (list .exit); area = now (answer .exit) }) ⌝ }
 {
     let d = map_codes(text, list.len(), answer);
-    records::finish(list, d)
+    records::fill(list, d.filling);
+    d.outcome
 }
 
 // Reduces a circuit text.
@@ -180,7 +253,8 @@ pub fn reduce(text: &[u8], list: &mut [Gate], answer: &mut [u8]) -> Outcome
     ensures { λ r. ⌜ Says reducing (record { text = now (text .entry); list = now (list .entry); area = now (answer .entry) }) (record { number = r .number; line = r .line; count = r .count; list = now (list .exit); area = now (answer .exit) }) ⌝ }
 {
     let d = reduce_codes(text, list.len(), answer);
-    records::finish(list, d)
+    records::fill(list, d.filling);
+    d.outcome
 }
 
 // Quotes the gate count of a cascade text.
@@ -188,7 +262,8 @@ pub fn quote(text: &[u8], list: &mut [Gate]) -> Outcome
     ensures { λ r. ⌜ Says quoting (record { text = now (text .entry); list = now (list .entry); area = [] }) (record { number = r .number; line = r .line; count = r .count; list = now (list .exit); area = [] }) ⌝ }
 {
     let d = quote_codes(text, list.len());
-    records::finish(list, d)
+    records::fill(list, d.filling);
+    d.outcome
 }
 
 // Map with a gate list of its own, as the other two below.

@@ -1,25 +1,27 @@
 -- The walk of every job over a text and a gate list, once:
---     pub fn f(text: &[u8], list: &mut [Gate]) -> Outcome { let d = g(text, list.len()); finish(list, d) }
--- `Hands` is what g's `ensures` says, `Says` what f's says. All that the walk knows of g and of `finish` is that each meets its contract.
+--     pub fn f(text: &[u8], list: &mut [Gate]) -> Outcome { let d = g(text, list.len()); fill(list, d.filling); d.outcome }
+-- `Hands` is what g's `ensures` says, `Says` what f's says. All that the walk knows of g and of `fill` is that each meets its contract.
 -- Assumes nothing.
-use Rattle.records.proofs.Names.{_≡_, refl, sym, subst, ℕ, [], _∷_, List, length, URA, Name, Fn, named, erased, imm, mut, w8, w64, tyInt, tyRef, field, deref, place, copy, local, valueLocal, assign, call, seq, return, rvOpd, addrOf, aggregate, Val, vint, SProp, ent, sep, emp, via, fst∗, id⊢, Lft, Share, Fml, ftrue, flft, Memory, Model, Routine, Env, Heap, Calls, Loops, WpFn, Tables, Closed, Atoms, sem, Fun, fact, Running, GhostRules, givenOf, tables, tablesOf, Given, ‵, raw, _⊛_, ⋆, _$_, _∵_, !, qed, by, move, keep, use1, use2, use3, split, join, fsplit, fjoin, feqL, suffices, frame, done, look, init, forget, stop, hop, fld, from, load, addr, of-opd, and-then, no-more, assigns, land, returns, enter, alloc1, alloc0, params1, pass1, pass0, free1, free0, agg, whole, sub, look-in, FmC, fmOf, owns, Is, shows, uint-makes, u8, usize, SliceRefOf, SliceRefMutOf, RefT, now, MutSlice, ShrSlice, Room, finally, slice-vals, mut-slice-tells, shr-slice-tells, shr-slice-copy, Signature, plain, owned, peeks, nothing, alive, onEntry, Meets, Contract, Triple, Ended, Clauses, closing, cited, says, Stays, gave-slice, stay-none-slice, walkOf, goes-gave-slice, goes-none-slice, ends-at, walked, yes}
+use Rattle.records.proofs.Names.{_≡_, refl, sym, subst, ap, ℕ, [], _∷_, List, length, URA, fullShare, Name, Fn, named, erased, imm, mut, w8, w64, tyInt, tyUnit, tyRef, field, deref, place, copy, local, valueLocal, assign, call, seq, return, rvOpd, addrOf, aggregate, Val, vint, SProp, ent, sep, emp, via, fst∗, id⊢, Lft, Share, Fml, ftrue, flft, fat, Memory, Model, Routine, Env, Heap, Calls, Loops, WpFn, Tables, Closed, Atoms, sem, Fun, fact, Running, GhostRules, givenOf, tables, tablesOf, Given, ‵, raw, _⊛_, ⋆, _$_, _∵_, !, qed, by, move, keep, use1, use2, use3, split, join, rewrite, fsplit, fjoin, feqL, suffices, frame, done, look, init, forget, stop, hop, fld, from, load, addr, of-opd, and-then, no-more, assigns, land, returns, enter, alloc1, alloc0, params1, pass1, pass0, free1, free0, agg, whole, sub, look-in, FmC, fmOf, owns, Is, shows, uint-makes, nothing-lawful, u8, usize, unit, SliceRefOf, SliceRefMutOf, RefT, now, MutSlice, ShrSlice, Room, finally, slice-vals, mut-slice-tells, shr-slice-tells, shr-slice-copy, Signature, plain, owned, only, peeks, nothing, alive, onEntry, Meets, Contract, Triple, Ended, Clauses, closing, cited, says, Stays, gave-slice, stay-none-slice, walkOf, goes-gave-slice, goes-none-slice, ends-at, walked, yes}
 use denote.Struct.Laws as LL
 use Rattle.gates.specs.declared.Gate.{Gate}
 use Rattle.gates.proofs.Gate as G
 use Rattle.gates.proofs.Gate.Laws as G′
 use Rattle.records.specs.declared.Done.{Done}
 use Rattle.records.specs.declared.Outcome.{Outcome}
-use Rattle.records.specs.Records.{finished, Fits}
+use Rattle.records.specs.Records.{filled-by, Fits}
+use Rattle.records.proofs.Filling as F
+use Rattle.records.proofs.Filling.Laws as F′
 use Rattle.records.proofs.Done as D
 use Rattle.records.proofs.Done.Laws as D′
 use Rattle.records.proofs.Outcome as O
 use Rattle.records.proofs.Outcome.Laws as O′
-use Rattle.records.proofs.finish as finish
-use Rattle.records.proofs.finish.Symbol as finish-def
-use Rattle.records.proofs.finish.Symbol.{name as #finish}
-use Rattle.records.proofs.finish.Met as finish-thm
+use Rattle.records.proofs.fill as fill
+use Rattle.records.proofs.fill.Symbol as fill-def
+use Rattle.records.proofs.fill.Symbol.{name as #fill}
+use Rattle.records.proofs.fill.Met as fill-thm
 use Rattle.records.proofs.Calls.{Asks, calls-says, raised}
-use Rattle.records.proofs.Jobs.{gate-pointee, fat-ty, fat-val, Finish, to-finish, asks-finish}
+use Rattle.records.proofs.Jobs.{gate-pointee, fat-ty, fat-val, Fill, to-fill, asks-fill}
 
 -- the MIR of f where g is `callee`
 abbrev pub code-of : Name → Fn
@@ -27,14 +29,15 @@ code-of callee = record {
   lifetimes = 2;
   outlives = [];
   params = 2;
-  locals = local O′.mir valueLocal ∷ local (fat-ty (named 0) imm (tyInt w8)) valueLocal ∷ local (fat-ty (named 1) mut gate-pointee) valueLocal ∷ local D′.mir valueLocal ∷ local (tyInt w64) valueLocal ∷ local (tyRef erased mut gate-pointee) valueLocal ∷ local (fat-ty erased mut gate-pointee) valueLocal ∷ [];
+  locals = local O′.mir valueLocal ∷ local (fat-ty (named 0) imm (tyInt w8)) valueLocal ∷ local (fat-ty (named 1) mut gate-pointee) valueLocal ∷ local D′.mir valueLocal ∷ local (tyInt w64) valueLocal ∷ local tyUnit valueLocal ∷ local (tyRef erased mut gate-pointee) valueLocal ∷ local (fat-ty erased mut gate-pointee) valueLocal ∷ [];
   body =
       seq (assign (place 4 []) (rvOpd (copy (place 2 (field 1 ∷ []))))) (
       seq (call callee (copy (place 1 []) ∷ copy (place 4 []) ∷ []) (place 3 [])) (
-      seq (assign (place 5 []) (addrOf (place 2 (field 0 ∷ deref G′.mir ∷ [])))) (
-      seq (assign (place 6 []) (aggregate (copy (place 5 []) ∷ copy (place 2 (field 1 ∷ [])) ∷ []))) (
-      seq (call #finish (copy (place 6 []) ∷ copy (place 3 []) ∷ []) (place 0 [])) (
-      return)))));
+      seq (assign (place 6 []) (addrOf (place 2 (field 0 ∷ deref G′.mir ∷ [])))) (
+      seq (assign (place 7 []) (aggregate (copy (place 6 []) ∷ copy (place 2 (field 1 ∷ [])) ∷ []))) (
+      seq (call #fill (copy (place 7 []) ∷ copy (place 3 (field 0 ∷ [])) ∷ []) (place 5 [])) (
+      seq (assign (place 0 []) (rvOpd (copy (place 3 (field 1 ∷ []))))) (
+      return))))));
 }
 
 -- the signatures of f and of g, and their contracts
@@ -53,6 +56,13 @@ run-ended = record { signature = run-signature; kept = (yes, (yes, tt)) }
 abbrev pub stayed : Stays (ended .signature .params) (ended .kept)
 stayed = (stay-none-slice (0 ∷ []) tt (plain (λ _. u8)) yes, (gave-slice (1 ∷ []) tt (plain (λ _. G.the-row)), tt))
 
+-- the machine values of the parts of what g hands over
+abbrev filling-val : Done → Val
+filling-val d = D′.the-laws .0 .val (D.the-type .to d .0)
+
+abbrev outcome-val : Done → Val
+outcome-val d = D′.the-laws .1 .0 .val (D.the-type .to d .1 .0)
+
 module _ (Hands : List ℕ → ℕ → Done → Type 0) where
   abbrev pub run-clauses : {M : Type 1} (𝓤 : URA M) → Clauses 𝓤 run-ended
   run-clauses 𝓤 κs a = record { ghost = Unit {0}; requires = λ _. emp 𝓤; ensures = λ _ r e. fact 𝓤 (Hands (now (a .0)) (a .1 .0) r) }
@@ -63,8 +73,8 @@ module _ (Says : List ℕ → List Gate → Outcome → List Gate → Type 0) wh
 
 -- what g hands over fits the list, and leads to what f says, whatever stood in the list
 pub record Leads (Hands : List ℕ → ℕ → Done → Type 0) (Says : List ℕ → List Gate → Outcome → List Gate → Type 0) : Type 0 where
-  pub fits : (t : List ℕ) (n : ℕ) (d : Done) → Hands t n d → Fits d n
-  pub tells : (t : List ℕ) (l : List Gate) (d : Done) → Hands t (length l) d → Says t l (d .outcome) (finished d l)
+  pub fits : (t : List ℕ) (n : ℕ) (d : Done) → Hands t n d → Fits (d .filling) n
+  pub tells : (t : List ℕ) (l : List Gate) (d : Done) → Hands t (length l) d → Says t l (d .outcome) (filled-by (d .filling) l)
 
 module _ (Hands : List ℕ → ℕ → Done → Type 0) (Says : List ℕ → List Gate → Outcome → List Gate → Type 0) (leads : Leads Hands Says) where
   module _ {M : Type 1} (𝓤 : URA M) (H : Heap 𝓤) (A : Atoms 𝓤) (W : Given 𝓤 H A) (mem : Memory → SProp 𝓤) (run : Routine → Fun 𝓤) (κ₀ κ₁ : Lft) (q₀ q₁ : Share) (t : RefT (List ℕ)) (x : RefT (List Gate))
@@ -87,10 +97,10 @@ module _ (Hands : List ℕ → ℕ → Done → Type 0) (Says : List ℕ → Lis
     abbrev Records : Fml
     Records = MutSlice (named 1) κ₁ G.the-row .own x (xv ∷ [])
 
-    abbrev a : RefT (List ℕ) × (RefT (List Gate) × Unit {0})
+    abbrev a : RefT (List ℕ) × (RefT (List Gate) × (Unit {0}))
     a = (t, (x, tt))
 
-    abbrev at : List Val × (List Val × Unit {0})
+    abbrev at : List Val × (List Val × (Unit {0}))
     at = (tv ∷ [], (xv ∷ [], tt))
 
     abbrev Post : Val → SProp 𝓤
@@ -102,47 +112,51 @@ module _ (Hands : List ℕ → ℕ → Done → Type 0) (Says : List ℕ → Lis
     asks-run : ent 𝓤 (sep 𝓤 (sep 𝓤 (A .lft κ₀ q₀) (sem 𝓤 H A ftrue)) (sem 𝓤 H A Text)) (Run .pre to-run)
     asks-run = qed W ((‵ (flft κ₀ q₀) ⊛ ‵ ftrue) ∷ ‵ Text ∷ []) ∵ nothing ! $ owned ! usize (Is usize) (uint-makes 𝓤 H A W w64) n _ (refl, x-room .0) $ fjoin ! $ move ! (2 ∷ 0 ∷ []) $ fjoin ! $ move ! (1 ∷ 0 ∷ []) $ join ! $ frame ! $ done !
 
-    turned : (d : Done) → Hands (t .now) n d → (r : Outcome) (z : List Gate) → r ≡ d .outcome → z ≡ finished d (x .now) → Says (t .now) (x .now) r z
-    turned d h r z e e′ = subst (λ (o : List Gate). Says (t .now) (x .now) r o) (sym e′) (subst (λ (o : Outcome). Says (t .now) (x .now) o (finished d (x .now))) (sym e) (leads .tells (t .now) (x .now) d h))
+    turned : (d : Done) → Hands (t .now) n d → (x′ : List Gate) → x′ ≡ filled-by (d .filling) (x .now) → Says (t .now) (x .now) (d .outcome) x′
+    turned d h x′ e₀ = subst (λ (o : List Gate). Says (t .now) (x .now) (d .outcome) o) (sym e₀) (leads .tells (t .now) (x .now) d h)
 
-    exits : (r : Outcome) (w : Val) (z : List Gate) → length z ≡ length (x .now) → Says (t .now) (x .now) r z → ent 𝓤 (⋆ 𝓤 H A (raw (alive 𝓤 H A run-signature (κ₀, tt) (q₀, tt)) ∷ raw (alive 𝓤 H A finish.signature (κ₁, tt) (q₁, tt)) ∷ ‵ (finally G.the-row (x .name) z) ∷ ‵ Text ∷ ‵ (O.the-row .own r (w ∷ [])) ∷ [])) (Post w)
-    exits r w z same-list h =
-        qed W (raw (alive 𝓤 H A run-signature (κ₀, tt) (q₀, tt)) ∷ raw (alive 𝓤 H A finish.signature (κ₁, tt) (q₁, tt)) ∷ ‵ (finally G.the-row (x .name) z) ∷ ‵ Text ∷ ‵ (O.the-row .own r (w ∷ [])) ∷ []) ∵
-        suffices ! _ (ends-at 𝓤 H A ended stayed (clauses Says 𝓤) W (((κ₀, (κ₁, tt)), (q₀, (q₁, tt)), tt, a, at), tt) w r (tt, (z, tt)) (tt, (same-list, tt))) $ says ! h $
-        use1 W (‵ (flft κ₀ q₀) ⊛ ‵ ftrue) (id⊢ 𝓤 _) $ split ! $ move ! (2 ∷ []) $ use1 W (‵ (flft κ₁ q₁) ⊛ ‵ ftrue) (id⊢ 𝓤 _) $ split ! $ move ! (0 ∷ 3 ∷ []) $ join ! $ move ! (2 ∷ 0 ∷ []) $ join ! $ frame ! $ nothing ! $ move ! (2 ∷ 0 ∷ []) $ fjoin ! $ move ! (2 ∷ 0 ∷ []) $ fjoin ! $ frame ! $ keep ! (1 ∷ []) $ done !
+    exits : (d : Done) (x′ : List Gate) → Is O.the-row (d .outcome) (outcome-val d ∷ []) → length x′ ≡ length (x .now) → Says (t .now) (x .now) (d .outcome) x′ → ent 𝓤 (⋆ 𝓤 H A (raw (alive 𝓤 H A run-signature (κ₀, tt) (q₀, tt)) ∷ raw (alive 𝓤 H A fill.signature (κ₁, tt) (q₁, tt)) ∷ ‵ (finally G.the-row (x .name) x′) ∷ ‵ Text ∷ [])) (Post (outcome-val d))
+    exits d x′ is same-x h =
+        qed W (raw (alive 𝓤 H A run-signature (κ₀, tt) (q₀, tt)) ∷ raw (alive 𝓤 H A fill.signature (κ₁, tt) (q₁, tt)) ∷ ‵ (finally G.the-row (x .name) x′) ∷ ‵ Text ∷ []) ∵
+        suffices ! _ (ends-at 𝓤 H A ended stayed (clauses Says 𝓤) W (((κ₀, (κ₁, tt)), (q₀, (q₁, tt)), tt, a, at), tt) (outcome-val d) (d .outcome) (tt, (x′, tt)) (tt, (same-x, tt))) $ says ! h $
+        use1 W (‵ (flft κ₀ q₀) ⊛ ‵ ftrue) (id⊢ 𝓤 _) $ split ! $ move ! (2 ∷ []) $ use1 W (‵ (flft κ₁ q₁) ⊛ ‵ ftrue) (id⊢ 𝓤 _) $ split ! $ move ! (0 ∷ 3 ∷ []) $ join ! $ move ! (2 ∷ 0 ∷ []) $ join ! $ frame ! $ nothing ! $ move ! (2 ∷ 0 ∷ []) $ fjoin ! $ move ! (2 ∷ 0 ∷ []) $ fjoin ! $ frame ! $ owned ! O.the-row (Is O.the-row) (LL.makes O.the-type O′.the-plain 𝓤 H A) (d .outcome) _ is $ keep ! (0 ∷ []) $ done !
 
-    module _ (callee : Name) (C : Calls 𝓤 H) (Λ : Loops 𝓤 H) (fm : FmC 𝓤 H (W .laws) C) (known-run : Triple 𝓤 (C callee) Run) (known-finish : Triple 𝓤 (C #finish) (Finish 𝓤 H A mem run)) where
+    module _ (callee : Name) (C : Calls 𝓤 H) (Λ : Loops 𝓤 H) (fm : FmC 𝓤 H (W .laws) C) (known-run : Triple 𝓤 (C callee) Run) (known-fill : Triple 𝓤 (C #fill) (Fill 𝓤 H A mem run)) where
       walk : ent 𝓤 (onEntry 𝓤 H A signature (κ₀, (κ₁, tt)) (q₀, (q₁, tt)) a at) (WpFn 𝓤 H C Λ (code-of callee) (tv ∷ xv ∷ []) Post)
       walk =
           qed W ((‵ (flft κ₀ q₀) ⊛ (‵ (flft κ₁ q₁) ⊛ ‵ ftrue)) ∷ ‵ (owns (ShrSlice (named 0) κ₀ u8 ∷ MutSlice (named 1) κ₁ G.the-row ∷ []) a at) ∷ []) ∵ enter ! C Λ (code-of callee) (tv ∷ xv ∷ []) _ $
-          alloc1 ! (λ l₀. alloc1 ! (λ l₁. alloc1 ! (λ l₂. alloc1 ! (λ l₃. alloc1 ! (λ l₄. alloc1 ! (λ l₅. alloc1 ! (λ l₆. alloc0 ! $ params1 ! $
-          pass1 ! (init ! 10 refl (tt, (tt, (record { fits = t-room .0 }, tt)))) $ pass1 ! (init ! 8 refl (tt, (tt, (record { fits = x-room .0 }, tt)))) $ pass0 ! $
-          -- [_6; …; room for _0; …; the tokens; what text and list own]: `list.len()`
-          assigns ! (of-opd ! (load ! (from ! (fld ! refl (stop !))) (look-in ! 8 (sub ! 1 refl (whole !))))) (from ! (stop !)) (init ! 4 refl (tt, record { fits = x-room .0 })) $
-          -- what g asks: the text is had twice, one copy goes to g and one is kept for the exit
-          move ! (15 ∷ []) $ fsplit ! $ move ! (1 ∷ []) $ fsplit ! $ move ! (17 ∷ []) $ split ! $ move ! (1 ∷ []) $ split ! $ move ! (5 ∷ []) $ use1 W (‵ Text ⊛ ‵ Text) (shr-slice-copy 𝓤 H A W (named 0) κ₀ u8 .twice t (tv ∷ [])) $ split ! $ move ! (4 ∷ 3 ∷ []) $ join ! $
-          use2 W (raw (Run .pre to-run)) asks-run $
-          calls-says ! fm run-ended (run-clauses Hands 𝓤) known-run to-run (λ d zs. Hands (t .now) n d) (λ d zs. refl) (and-then ! (load ! (from ! (stop !)) (look ! 15 refl)) (and-then ! (load ! (from ! (stop !)) (look ! 9 refl)) (no-more !))) (λ w₁ d a′ e₁.
-          peeks ! D.the-row (Is D.the-row) (shows 𝓤 H A D.the-row) d (w₁ ∷ []) (λ is₁. land ! (from ! (stop !)) (init ! 13 refl (LL.lawful D.the-type D′.the-laws 𝓤 H A W .typed d (w₁ ∷ []) is₁ .0)) $
-          -- the list lent again, and what `finish` asks
-          assigns ! (addr ! (from ! (fld ! refl (hop ! (look-in ! 15 (sub ! 0 refl (whole !))) (stop !))))) (from ! (stop !)) (init ! 9 refl (tt, tt)) $
-          assigns ! (agg ! (and-then ! (load ! (from ! (stop !)) (look ! 9 refl)) (and-then ! (load ! (from ! (fld ! refl (stop !))) (look-in ! 15 (sub ! 1 refl (whole !)))) (no-more !)))) (from ! (stop !)) (init ! 7 refl (tt, (tt, (record { fits = x-room .0 }, tt)))) $
-          move ! (4 ∷ 5 ∷ 0 ∷ []) $ use3 W (raw (Finish 𝓤 H A mem run .pre (to-finish 𝓤 H A mem run κ₁ q₁ x d w₁))) (asks-finish 𝓤 H A mem run κ₁ q₁ x d w₁ W (named 1) (leads .fits (t .now) n d e₁)) $
-          calls-says ! fm finish.ended (finish.clauses 𝓤 H A mem run) known-finish (to-finish 𝓤 H A mem run κ₁ q₁ x d w₁) (λ r zs. (r ≡ d .outcome) × (zs .0 ≡ finished d (x .now))) (λ r zs. refl) (and-then ! (load ! (from ! (stop !)) (look ! 5 refl)) (and-then ! (load ! (from ! (stop !)) (look ! 11 refl)) (no-more !))) (λ w₂ r l′ e₂.
-          move ! (2 ∷ []) $ fsplit ! $ fsplit ! $ move ! (1 ∷ []) $ feqL ! (λ same-list. move ! (2 ∷ []) $ peeks ! O.the-row (Is O.the-row) (shows 𝓤 H A O.the-row) r (w₂ ∷ []) (λ is₂.
-          land ! (from ! (stop !)) (init ! 20 refl (LL.lawful O.the-type O′.the-laws 𝓤 H A W .typed r (w₂ ∷ []) is₂ .0)) $
-          -- the locals are freed; what is left of the context is what the exit asks
-          returns ! (look ! 20 refl) $ forget ! 20 refl $ forget ! 18 refl $ forget ! 16 refl $ forget ! 14 refl $ forget ! 12 refl $ forget ! 10 refl $ forget ! 8 refl $ move ! (20 ∷ 21 ∷ []) $ free1 ! $ move ! (18 ∷ 19 ∷ []) $ free1 ! $
-          move ! (16 ∷ 17 ∷ []) $ free1 ! $ move ! (14 ∷ 15 ∷ []) $ free1 ! $ move ! (12 ∷ 13 ∷ []) $ free1 ! $ move ! (10 ∷ 11 ∷ []) $ free1 ! $ move ! (8 ∷ 9 ∷ []) $ free1 ! $ free0 ! $
-          keep ! (4 ∷ 3 ∷ 1 ∷ 6 ∷ 0 ∷ []) $ by ! (exits r w₂ (l′ .0) same-list (turned d e₁ r (l′ .0) (e₂ .0) (e₂ .1)))))))))))))))
+          alloc1 ! (λ l₀. alloc1 ! (λ l₁. alloc1 ! (λ l₂. alloc1 ! (λ l₃. alloc1 ! (λ l₄. alloc1 ! (λ l₅. alloc1 ! (λ l₆. alloc1 ! (λ l₇. alloc0 ! $ params1 ! $
+          pass1 ! (init ! 12 refl (tt, (tt, (record { fits = t-room .0 }, tt)))) $ pass1 ! (init ! 10 refl (tt, (tt, (record { fits = x-room .0 }, tt)))) $ pass0 ! $
+          -- [_7; …; room for _0; …; the tokens; what the parameters own]: each `len()`
+          assigns ! (of-opd ! (load ! (from ! (fld ! refl (stop !))) (look-in ! 10 (sub ! 1 refl (whole !))))) (from ! (stop !)) (init ! 6 refl (tt, record { fits = x-room .0 })) $
+          -- what g asks: a text is had twice, one copy goes to g and one is kept for the exit
+          move ! (17 ∷ []) $ fsplit ! $ move ! (1 ∷ []) $ fsplit ! $ move ! (19 ∷ []) $ split ! $ move ! (1 ∷ []) $ split ! $ move ! (5 ∷ []) $ use1 W (‵ Text ⊛ ‵ Text) (shr-slice-copy 𝓤 H A W (named 0) κ₀ u8 .twice t (tv ∷ [])) $ split ! $
+          move ! (4 ∷ 3 ∷ []) $ join ! $ use2 W (raw (Run .pre to-run)) asks-run $
+          calls-says ! fm run-ended (run-clauses Hands 𝓤) known-run to-run (λ d zs. Hands (t .now) n d) (λ d zs. refl) (and-then ! (load ! (from ! (stop !)) (look ! 17 refl)) (and-then ! (load ! (from ! (stop !)) (look ! 11 refl)) (no-more !))) (λ w d last h.
+          peeks ! D.the-row (Is D.the-row) (shows 𝓤 H A D.the-row) d (w ∷ []) (λ is. land ! (from ! (stop !)) (init ! 15 refl (LL.lawful D.the-type D′.the-laws 𝓤 H A W .typed d (w ∷ []) is .0)) $
+          -- the value of d, by its parts
+          move ! (15 ∷ []) $ rewrite ! 0 (λ (e : Val). ‵ (fat fullShare D′.mir l₃ 0 e)) (ap only (LL.tells D.the-type D′.the-laws d (w ∷ []) is)) refl $
+          -- the list lent again, and what `fill` asks
+          assigns ! (addr ! (from ! (fld ! refl (hop ! (look-in ! 17 (sub ! 0 refl (whole !))) (stop !))))) (from ! (stop !)) (init ! 10 refl (tt, tt)) $
+          assigns ! (agg ! (and-then ! (load ! (from ! (stop !)) (look ! 10 refl)) (and-then ! (load ! (from ! (fld ! refl (stop !))) (look-in ! 17 (sub ! 1 refl (whole !)))) (no-more !)))) (from ! (stop !)) (init ! 8 refl (tt, (tt, (record { fits = x-room .0 }, tt)))) $
+          owned ! F.the-row (Is F.the-row) (LL.makes F.the-type F′.the-plain 𝓤 H A) (d .filling) (filling-val d ∷ []) (LL.owed D.the-type D′.the-laws d (w ∷ []) is .0) $ move ! (6 ∷ 7 ∷ 0 ∷ []) $
+          use3 W (raw (Fill 𝓤 H A mem run .pre (to-fill 𝓤 H A mem run κ₁ q₁ x (d .filling) (filling-val d)))) (asks-fill 𝓤 H A mem run κ₁ q₁ x (d .filling) (filling-val d) W (named 1) (leads .fits (t .now) n d h)) $
+          calls-says ! fm fill.ended (fill.clauses 𝓤 H A mem run) known-fill (to-fill 𝓤 H A mem run κ₁ q₁ x (d .filling) (filling-val d)) (λ _ zs. zs .0 ≡ filled-by (d .filling) (x .now)) (λ _ zs. refl) (and-then ! (load ! (from ! (stop !)) (look ! 7 refl)) (and-then ! (load ! (from ! (fld ! refl (stop !))) (look-in ! 1 (sub ! 0 refl (whole !)))) (no-more !))) (λ w₀ r₀ x′ e₀.
+          move ! (2 ∷ []) $ fsplit ! $ fsplit ! $ move ! (1 ∷ []) $ feqL ! (λ same-x. move ! (2 ∷ []) $ peeks ! unit (Is unit) (shows 𝓤 H A unit) r₀ (w₀ ∷ []) (λ is₀.
+          land ! (from ! (stop !)) (init ! 14 refl (nothing-lawful 𝓤 H A W .typed r₀ _ is₀ .0)) $
+          -- the outcome; the locals are freed, and what is left of the context is what the exit asks
+          assigns ! (of-opd ! (load ! (from ! (fld ! refl (stop !))) (look-in ! 4 (sub ! 1 refl (whole !))))) (from ! (stop !)) (init ! 23 refl (LL.lawful O.the-type O′.the-laws 𝓤 H A W .typed (d .outcome) (outcome-val d ∷ []) (LL.owed D.the-type D′.the-laws d (w ∷ []) is .1 .0) .0)) $
+          returns ! (look ! 23 refl) $ forget ! 23 refl $ forget ! 21 refl $ forget ! 19 refl $ forget ! 4 refl $ forget ! 16 refl $ forget ! 14 refl $ forget ! 12 refl $ forget ! 10 refl $ move ! (23 ∷ 24 ∷ []) $ free1 ! $
+          move ! (21 ∷ 22 ∷ []) $ free1 ! $ move ! (19 ∷ 20 ∷ []) $ free1 ! $ move ! (4 ∷ 18 ∷ []) $ free1 ! $ move ! (15 ∷ 16 ∷ []) $ free1 ! $ move ! (13 ∷ 14 ∷ []) $ free1 ! $ move ! (11 ∷ 12 ∷ []) $ free1 ! $ move ! (9 ∷ 10 ∷ []) $
+          free1 ! $ free0 ! $ keep ! (5 ∷ 3 ∷ 1 ∷ 7 ∷ []) $ by ! (exits d (x′ .0) (LL.owed D.the-type D′.the-laws d (w ∷ []) is .1 .0) same-x (turned d h (x′ .0) e₀)))))))))))))))
 
-  -- f's routine meets f's contract, for any environment in which f is this MIR and the keys of g and of `finish` mean their routines
-  pub proved : {M : Type 1} (𝓤 : URA M) (H : Heap 𝓤) (𝓜 : Model 𝓤 H) (𝓖 : GhostRules 𝓤 H) (𝓡 : Running 𝓤 H 𝓜) (env : Env) (key callee : Name) (g : Routine) → env callee ≡ g → env #finish ≡ finish-def.routine
+  -- f's routine meets f's contract, for any environment in which f is this MIR and the keys of g and of `fill` mean their routines
+  pub proved : {M : Type 1} (𝓤 : URA M) (H : Heap 𝓤) (𝓜 : Model 𝓤 H) (𝓖 : GhostRules 𝓤 H) (𝓡 : Running 𝓤 H 𝓜) (env : Env) (key callee : Name) (g : Routine) → env callee ≡ g → env #fill ≡ fill-def.routine
       → Closed 𝓤 H (tables 𝓤 H 𝓜 𝓡 env .C) (tables 𝓤 H 𝓜 𝓡 env .Λ) key (code-of callee)
       → Meets 𝓤 H (𝓖 .A) run-signature (𝓡 .run g) (closing 𝓤 H (𝓖 .A) run-ended (run-clauses Hands 𝓤))
       → Meets 𝓤 H (𝓖 .A) signature (tables 𝓤 H 𝓜 𝓡 env .C key) (closing 𝓤 H (𝓖 .A) ended (clauses Says 𝓤))
   unfolding tablesOf
-  proved 𝓤 H 𝓜 𝓖 𝓡 env key callee g is-g is-finish closed met =
+  proved 𝓤 H 𝓜 𝓖 𝓡 env key callee g is-g is-fill closed met =
       let A : Atoms 𝓤 = 𝓖 .A in
       let W : Given 𝓤 H A = givenOf 𝓤 H 𝓜 𝓖 in
       let 𝓣 : Tables 𝓤 H = tablesOf 𝓤 H 𝓜 (tables 𝓤 H 𝓜 𝓡 env) in
@@ -150,4 +164,4 @@ module _ (Hands : List ℕ → ℕ → Done → Type 0) (Says : List ℕ → Lis
       (walked 𝓤 H A ended stayed (clauses Says 𝓤) (WpFn 𝓤 H (𝓣 .C) (𝓣 .Λ) (code-of callee)) (λ κs. (slice-vals, (slice-vals, tt))) (λ κs. (shr-slice-tells (named 0) (κs .0) u8, (mut-slice-tells (named 1) (κs .1 .0) G.the-row, tt)))
       (λ κs qs bounds a _ are. via 𝓤 _ (fst∗ 𝓤 _ (emp 𝓤)) (walk 𝓤 H A W (𝓜 .mem) (𝓡 .run) (κs .0) (κs .1 .0) (qs .0) (qs .1 .0) (a .0) (a .1 .0) (are .0 .0 .1) (are .1 .0 .0 .1) callee (𝓣 .C) (𝓣 .Λ) (fmOf 𝓤 H (W .laws) 𝓣)
       (cited 𝓤 H (Asks 𝓤 H A run-ended (run-clauses Hands 𝓤)) 𝓜 𝓡 env callee g is-g met)
-      (cited 𝓤 H (Finish 𝓤 H A (𝓜 .mem) (𝓡 .run)) 𝓜 𝓡 env #finish finish-def.routine is-finish (finish-thm.met 𝓤 H 𝓜 𝓖 𝓡)))))
+      (cited 𝓤 H (Fill 𝓤 H A (𝓜 .mem) (𝓡 .run)) 𝓜 𝓡 env #fill fill-def.routine is-fill (fill-thm.met 𝓤 H 𝓜 𝓖 𝓡)))))

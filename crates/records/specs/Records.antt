@@ -8,7 +8,7 @@ use lib.ListN.{length, getD, take, drop, replicate}
 use Rattle.gates.specs.declared.Gate.{Gate}
 use Rattle.gates.specs.declared.Gate.the-variants.{Not}
 use Rattle.gates.specs.Code.{gate, gates, AllCodes}
-use Rattle.records.specs.declared.Done.{Done}
+use Rattle.records.specs.declared.Filling.{Filling}
 
 -- record i: the gate of code i for i below count, else `not 0`
 abbrev pub record-at : List ℕ → ℕ → ℕ → Gate
@@ -22,9 +22,9 @@ front codes count limit = gates (take count codes) ++ replicate (limit - count) 
 abbrev pub written : List ℕ → ℕ → ℕ → List Gate → List Gate
 written codes count limit l = front codes count limit ++ drop limit l
 
--- a list after a job has handed d over
-abbrev pub finished : Done → List Gate → List Gate
-finished d l = written (d .codes) (d .gates) (d .limit) l
+-- a list after a job has handed f over for it
+abbrev pub filled-by : Filling → List Gate → List Gate
+filled-by f l = written (f .codes) (f .gates) (f .limit) l
 
 -- the first `count` codes are there, and each is the number of a gate
 pub record Coded (codes : List ℕ) (count : ℕ) : Type 0 where
@@ -38,8 +38,8 @@ pub record Writable (codes : List ℕ) (count limit room : ℕ) : Type 0 where
   pub within : limit ≤ room
 
 -- what a job hands over can be written into a list of `room` records
-pub record Fits (d : Done) (room : ℕ) : Type 0 where
-  pub there : d .gates ≤ 4096
-  pub valid : AllCodes 32 (take (d .gates) (d .codes))
-  pub few : d .gates ≤ d .limit
-  pub within : d .limit ≤ room
+pub record Fits (f : Filling) (room : ℕ) : Type 0 where
+  pub there : f .gates ≤ 4096
+  pub valid : AllCodes 32 (take (f .gates) (f .codes))
+  pub few : f .gates ≤ f .limit
+  pub within : f .limit ≤ room

@@ -1,23 +1,42 @@
 // The gate records that a job is lent: what a job's covered part hands over, and how it is written into them. `store` alone
-// writes into them; it and `finish` are proved by hand.
+// writes into them; it and `fill` are proved by hand.
 ghost use mathlib.Core.Path.{_≡_};
 ghost use lib.ListN.{length};
-ghost use Rattle.records.specs.Records.{record-at, written, finished, Coded, Writable, Fits};
+ghost use Rattle.records.specs.Records.{record-at, written, filled-by, Coded, Writable, Fits};
 
-// The number, the line and the count that a job returns.
+// The number, the line and the count that a job over one text returns.
 pub struct Outcome {
     pub number: u8,
     pub line: usize,
     pub count: usize,
 }
 
-// What the covered part of a job hands over: the codes of the gates for the front of the list, how many codes these are, how many records are
-// written, and the outcome.
-pub struct Done {
+// Those of a job over several texts, and the number of the text whose rule or line refuses.
+pub struct TextOutcome {
+    pub number: u8,
+    pub line: usize,
+    pub text: u8,
+    pub count: usize,
+}
+
+// What is written into a gate list: the codes of the gates for its front, how many codes these are, and how many records are written.
+pub struct Filling {
     pub codes: [u16; 4096],
     pub gates: usize,
     pub limit: usize,
+}
+
+// What the covered part of a job over one text and one gate list hands over.
+pub struct Done {
+    pub filling: Filling,
     pub outcome: Outcome,
+}
+
+// What that of a job over several texts and two gate lists hands over.
+pub struct DoneTwo {
+    pub first: Filling,
+    pub second: Filling,
+    pub outcome: TextOutcome,
 }
 
 // Record i: the gate of code i for i below count, else `not 0`.
@@ -43,13 +62,11 @@ pub fn store(list: &mut [gates::Gate], codes: &[u16], count: usize, limit: usize
     }
 }
 
-// Writes what a job hands over into the list that it is lent.
-pub fn finish(list: &mut [gates::Gate], d: Done) -> Outcome
-    requires { ⌜ Fits d (length (now list)) ⌝ }
-    ensures { λ r. ⌜ (r ≡ d .outcome) × (now (list .exit) ≡ finished d (now (list .entry))) ⌝ }
+// Writes into a gate list what a job hands over for it.
+pub fn fill(list: &mut [gates::Gate], f: Filling)
+    requires { ⌜ Fits f (length (now list)) ⌝ }
+    ensures { λ _. ⌜ now (list .exit) ≡ filled-by f (now (list .entry)) ⌝ }
 {
-    let codes = d.codes;
-    let outcome = d.outcome;
-    store(list, &codes, d.gates, d.limit);
-    outcome
+    let codes = f.codes;
+    store(list, &codes, f.gates, f.limit);
 }

@@ -26,5 +26,16 @@ extern "C" {
         list_len: usize,
         outcome: *mut u64,
     );
+    pub fn yilgorza_compare(
+        first: *const u8,
+        first_len: usize,
+        first_list: *mut u16,
+        first_list_len: usize,
+        second: *const u8,
+        second_len: usize,
+        second_list: *mut u16,
+        second_list_len: usize,
+        outcome: *mut u64,
+    );
     pub fn yilgorza_gate(record: u16, gate: *mut u8);
 }

@@ -1,7 +1,7 @@
 //! Safe calls of the C functions: each is proved for all bytes and all lengths, so
 //! a caller has nothing to see to.
 
-use crate::declared::{yilgorza_gate, yilgorza_quote};
+use crate::declared::{yilgorza_compare, yilgorza_gate, yilgorza_quote};
 
 pub type Writing =
     unsafe extern "C" fn(*const u8, usize, *mut u16, usize, *mut u8, usize, *mut u64);
@@ -35,6 +35,31 @@ pub fn quote(text: &[u8], list: &mut [u16]) -> [u64; 3] {
             text.len(),
             list.as_mut_ptr(),
             list.len(),
+            outcome.as_mut_ptr(),
+        );
+    }
+    outcome
+}
+
+/// Number, line, text and count of compare.
+pub fn compare(
+    first: &[u8],
+    first_list: &mut [u16],
+    second: &[u8],
+    second_list: &mut [u16],
+) -> [u64; 4] {
+    let mut outcome = [0; 4];
+    // As above; the texts are only read, so they may be one.
+    unsafe {
+        yilgorza_compare(
+            first.as_ptr(),
+            first.len(),
+            first_list.as_mut_ptr(),
+            first_list.len(),
+            second.as_ptr(),
+            second.len(),
+            second_list.as_mut_ptr(),
+            second_list.len(),
             outcome.as_mut_ptr(),
         );
     }

@@ -1,19 +1,25 @@
 //! Maps a cascade of multiple-control Toffoli gates to a list of NCV gates,
-//! reduces such a list, and quotes its gate count.
+//! reduces such a list, quotes its gate count, and says whether two such lists are
+//! one circuit.
 //!
 //! ```
 //! let mapped = yilgorza::map(b"(lines 2)\n(mct (0) 1)\n").unwrap();
 //! assert_eq!(mapped.text, b"(lines 2)\n(cn 0 1)\n");
 //! assert_eq!(mapped.gates, [yilgorza::Gate::Cn { control: 0, target: 1 }]);
+//!
+//! let redrawn = b"(lines 2)\n(v 0 1)\n(v 0 1)\n";
+//! assert!(yilgorza::compare(&mapped.text, redrawn).unwrap().is_eq());
 //! ```
 //!
-//! [`map`], [`reduce`] and [`quote`] bring the memory that the C functions of
-//! `include/yilgorza.h` are lent; [`lent`] has them on memory of the caller's.
+//! [`map`], [`reduce`], [`quote`] and [`compare`] bring the memory that the C
+//! functions of `include/yilgorza.h` are lent; [`lent`] has them on memory of the
+//! caller's.
 
 mod declared;
 mod ffi;
 pub mod lent;
 
+use std::cmp::Ordering;
 use std::fmt;
 
 /// The records of a gate list, and the bytes of an answer area that has room for
@@ -51,6 +57,16 @@ pub enum Number {
 pub struct Refusal {
     pub number: Number,
     pub line: u64,
+}
+
+/// Why a job over several texts turns them away: the refusal, and the text whose
+/// rule or line refuses, counted from 1 in the order in which the job takes them; 0
+/// where the refusal is not about one of them.
+#[derive(Clone, Copy, Debug, PartialEq, Eq, Hash)]
+pub struct SeveralRefusal {
+    pub number: Number,
+    pub line: u64,
+    pub text: u64,
 }
 
 impl Number {
@@ -108,6 +124,26 @@ impl fmt::Display for Refusal {
 
 impl std::error::Error for Refusal {}
 
+impl fmt::Display for SeveralRefusal {
+    fn fmt(&self, f: &mut fmt::Formatter<'_>) -> fmt::Result {
+        let SeveralRefusal { number, line, text } = *self;
+        let place = match text {
+            0 => "",
+            1 => "the first text: ",
+            2 => "the second text: ",
+            _ => "the third text: ",
+        };
+        write!(
+            f,
+            "(turned-away {} {line} {text}): {place}{}",
+            number as u64,
+            number.words()
+        )
+    }
+}
+
+impl std::error::Error for SeveralRefusal {}
+
 /// The reduced list of a text, and its circuit text.
 #[derive(Clone, Debug, PartialEq, Eq)]
 pub struct Circuit {
@@ -130,6 +166,22 @@ pub fn quote(text: &[u8]) -> Result<Vec<Gate>, Refusal> {
     let mut list = vec![0; LIST_RECORDS];
     let count = lent::quote(text, &mut list)?;
     Ok(gates(&list[..count]))
+}
+
+/// Compares two circuit texts: by the number of lines of the circuit, then by the
+/// dictionary order of the reduced lists, a list that ends sooner first. They are
+/// equal exactly if they are on the same number of lines and passes and merges lead
+/// from one circuit to the other. It is a total order, and can sort:
+///
+/// ```
+/// let mut circuits = ["(lines 3)\n", "(lines 2)\n(cn 0 1)\n", "(lines 2)\n(not 0)\n"];
+/// circuits.sort_by(|a, b| yilgorza::compare(a.as_bytes(), b.as_bytes()).unwrap());
+/// assert_eq!(circuits, ["(lines 2)\n(not 0)\n", "(lines 2)\n(cn 0 1)\n", "(lines 3)\n"]);
+/// ```
+pub fn compare(first: &[u8], second: &[u8]) -> Result<Ordering, SeveralRefusal> {
+    let mut first_list = vec![0; LIST_RECORDS];
+    let mut second_list = vec![0; LIST_RECORDS];
+    lent::compare(first, &mut first_list, second, &mut second_list)
 }
 
 type Writing = fn(&[u8], &mut [u16], &mut [u8]) -> Result<usize, Refusal>;

@@ -1,6 +1,9 @@
-//! The examples of document 01, and what is left in memory that a caller lends.
+//! The examples of document 01, the order of circuits, and what is left in memory
+//! that a caller lends.
 
-use yilgorza::{lent, map, quote, reduce, Circuit, Gate, Number, Refusal};
+use std::cmp::Ordering;
+
+use yilgorza::{compare, lent, map, quote, reduce, Circuit, Gate, Number, Refusal, SeveralRefusal};
 
 /// A text of these lines.
 fn text(lines: &[&str]) -> Vec<u8> {
@@ -13,6 +16,11 @@ fn text(lines: &[&str]) -> Vec<u8> {
 
 fn refused<T>(number: Number, line: u64) -> Result<T, Refusal> {
     Err(Refusal { number, line })
+}
+
+/// A refusal of one of several texts.
+fn refused_text<T>(number: Number, line: u64, text: u64) -> Result<T, SeveralRefusal> {
+    Err(SeveralRefusal { number, line, text })
 }
 
 const TOFFOLI: [&str; 2] = ["(lines 3)", "(mct (0 1) 2)"];
@@ -146,6 +154,98 @@ fn refusals() {
     );
 }
 
+/// Circuits in rising order, each in all the ways in which it is drawn here: by the
+/// number of lines, then by the reduced lists, which document 01 gives or which are
+/// the only ones with so few gates.
+const RISING: [&[&[&str]]; 14] = [
+    &[&["(lines 1)"]],
+    &[&["(lines 1)", "(not 0)"]],
+    &[&["(lines 2)"], &["(lines 2)", "(v 0 1)", "(vp 0 1)"]],
+    &[&["(lines 2)", "(not 0)"]],
+    &[&["(lines 2)", "(not 0)", "(cn 0 1)"]],
+    // One gate more than the last, and it is the `not 0` that fills a list.
+    &[&["(lines 2)", "(not 0)", "(cn 0 1)", "(not 0)"]],
+    &[
+        &["(lines 2)", "(not 1)", "(cn 0 1)"],
+        &["(lines 2)", "(cn 0 1)", "(not 1)"],
+    ],
+    &[
+        &["(lines 2)", "(cn 0 1)"],
+        &["(lines 2)", "(v 0 1)", "(v 0 1)"],
+    ],
+    &[&["(lines 2)", "(cn 0 1)", "(cn 1 0)"]],
+    &[
+        &["(lines 2)", "(vp 0 1)"],
+        &["(lines 2)", "(cn 0 1)", "(v 0 1)"],
+    ],
+    &[&["(lines 3)"]],
+    &[&["(lines 3)", "(cn 0 1)", "(cn 1 2)", "(cn 0 1)"]],
+    &[
+        &["(lines 3)", "(cn 1 2)"],
+        &["(lines 3)", "(cn 0 2)", "(cn 1 2)", "(cn 0 2)"],
+        &["(lines 3)", "(v 1 2)", "(v 1 2)"],
+    ],
+    &[&["(lines 32)"]],
+];
+
+#[test]
+fn comparisons() {
+    let mut drawn = Vec::new();
+    for (place, ways) in RISING.iter().enumerate() {
+        drawn.extend(ways.iter().map(|lines| (place, text(lines))));
+    }
+    for (first_place, first) in &drawn {
+        for (second_place, second) in &drawn {
+            let order = first_place.cmp(second_place);
+            assert_eq!(compare(first, second), Ok(order));
+        }
+    }
+    // Sorted from any order they come out in this one.
+    let mut sorted = drawn.clone();
+    sorted.reverse();
+    sorted.sort_by(|a, b| compare(&a.1, &b.1).unwrap());
+    assert!(sorted.windows(2).all(|pair| pair[0].0 <= pair[1].0));
+}
+
+#[test]
+fn refusals_of_two_texts() {
+    let good = text(&["(lines 2)", "(cn 0 1)"]);
+    let full = [vec!["(lines 2)"], vec!["(not 0)"; 4096]].concat();
+    let over = [full.clone(), vec!["(not 0)"]].concat();
+    let cases = [
+        (vec![b'('; 60001], Number::Overlong, 0),
+        (vec![], Number::Malformed, 1),
+        (text(&TOFFOLI), Number::Malformed, 2),
+        (b"(lines 2)\n(cn 0 1)".to_vec(), Number::Malformed, 2),
+        (text(&["(lines 33)"]), Number::NoSuchLine, 1),
+        (
+            text(&["(lines 2)", "(cn 0 1)", "(not 2)"]),
+            Number::NoSuchLine,
+            3,
+        ),
+        (text(&["(lines 2)", "(v 1 1)"]), Number::Crossed, 2),
+        (text(&over), Number::TooMany, 4098),
+    ];
+    for (bad, number, line) in &cases {
+        let first = refused_text(*number, *line, 1);
+        assert_eq!(compare(bad, &good), first);
+        assert_eq!(compare(&good, bad), refused_text(*number, *line, 2));
+        // The first text is judged whole before the second is looked at.
+        for (other, _, _) in &cases {
+            assert_eq!(compare(bad, other), first);
+        }
+    }
+    assert_eq!(
+        compare(&text(&full), &text(&["(lines 2)"])),
+        Ok(Ordering::Equal)
+    );
+    assert_eq!(
+        compare(&good, b"").unwrap_err().to_string(),
+        "(turned-away 3 1 2): the second text: this line of the text is not written \
+         in the form asked for"
+    );
+}
+
 #[test]
 fn twelfth_wide_gate() {
     let gate = "(mct (0 1 2 3 4 5 6 7 8 9 10 11 12 13 14) 15)";
@@ -180,6 +280,53 @@ fn lent_memory() {
         refused(Number::ShortList, 0)
     );
     assert_eq!(list, [7; 4095]);
+}
+
+#[test]
+fn lists_lent_to_compare() {
+    let ordered = text(&["(lines 3)", "(v 1 2)", "(v 1 2)"]);
+    let other = text(&["(lines 2)", "(not 0)", "(cn 0 1)", "(not 0)"]);
+    let long = vec![b'('; 60001];
+
+    // What two lists of these lengths, full of 7, hold after the call.
+    let left = |first: &[u8], first_len, second: &[u8], second_len| {
+        let (mut first_list, mut second_list) = (vec![7; first_len], vec![7; second_len]);
+        let result = lent::compare(first, &mut first_list, second, &mut second_list);
+        (result, first_list, second_list)
+    };
+
+    let (result, first, second) = left(&ordered, 4096, &other, 5000);
+    assert_eq!(result, Ok(Ordering::Greater));
+    assert_eq!(first[..1], [274]);
+    assert_eq!(first[1..], [2; 4095]);
+    assert_eq!(second[..3], [2, 138, 2]);
+    assert_eq!(second[3..], [2; 4997]);
+
+    // Refusals 1 and 2 leave both lists as they were.
+    let unchanged = |a, b| (vec![7; a], vec![7; b]);
+    for (first, first_len, second, second_len, refusal) in [
+        (&ordered, 4095, &other, 4096, (Number::ShortList, 1)),
+        (&ordered, 4096, &other, 4095, (Number::ShortList, 2)),
+        (&ordered, 0, &vec![], 0, (Number::ShortList, 1)),
+        (&ordered, 4096, &long, 0, (Number::Overlong, 2)),
+        (&long, 0, &long, 4096, (Number::Overlong, 1)),
+    ] {
+        let (result, a, b) = left(first, first_len, second, second_len);
+        assert_eq!(result, refused_text(refusal.0, 0, refusal.1));
+        assert_eq!((a, b), unchanged(first_len, second_len));
+    }
+
+    // Any other leaves `not 0` in all of both, whatever their lengths.
+    for (first, first_len, second, second_len, text) in [
+        (&vec![], 4096, &other, 4096, 1),
+        (&vec![], 5000, &long, 10, 1),
+        (&vec![], 4096, &other, 0, 1),
+        (&ordered, 5000, &vec![], 4097, 2),
+    ] {
+        let (result, a, b) = left(first, first_len, second, second_len);
+        assert_eq!(result, refused_text(Number::Malformed, 1, text));
+        assert_eq!((a, b), (vec![2; first_len], vec![2; second_len]));
+    }
 }
 
 /// The words are those of README's table.

@@ -1,18 +1,21 @@
 """Maps a cascade of multiple-control Toffoli gates to a list of NCV gates,
-reduces such a list, and quotes its gate count.
+reduces such a list, quotes its gate count, and says whether two such lists are one
+circuit.
 
     >>> import yilgorza
     >>> yilgorza.quote("(lines 3)\\n(mct (0 1) 2)\\n").count
     5
+    >>> yilgorza.compare("(lines 2)\\n(v 0 1)\\n(v 0 1)\\n", "(lines 2)\\n(cn 0 1)\\n")
+    <Ordering.EQUAL: 0>
 
 A text is a str or any bytes-like object. A str stands for its UTF-8 bytes, a lone
 surrogate for its three; no character outside ASCII is in form, so a line that has
 one is turned away as malformed. A file is best read as bytes: opened as a text
 its line ends are changed, and bytes of it may be.
 
-The jobs are called by the module's name, yilgorza.map, yilgorza.reduce and
-yilgorza.quote: `from yilgorza import *` brings the types alone, so that it hides
-neither the built-in map nor functools.reduce.
+The jobs are called by the module's name, yilgorza.map, yilgorza.reduce,
+yilgorza.quote and yilgorza.compare: `from yilgorza import *` brings the types
+alone, so that it hides neither the built-in map nor functools.reduce.
 
 Calls may run at the same time in any number of threads: each lends areas of its
 own, and the interpreter runs other threads meanwhile. The shared object is loaded
@@ -36,6 +39,7 @@ __all__ = [
     "InternalError",
     "Kind",
     "Number",
+    "Ordering",
     "Quote",
     "TurnedAway",
 ]
@@ -86,19 +90,27 @@ _WORDS = {
     Number.SHORT_ANSWER: "the service lent an answer area that is too short",
 }
 
+# The texts of a job over several, by their numbers from 1.
+_ORDINALS = ("first", "second", "third")
+
 
 class TurnedAway(Exception):
     """A text is refused, with the number and the line, counted from 1; line 0
     where no line is meant.
 
-    It can be pickled. As with other exceptions no two are equal: compare number
-    and line.
+    From a job over several texts it also has the number of the text, counted from 1
+    in the order in which the job takes them; 0 where no one of them is meant. From
+    a job over one text this is None.
+
+    It can be pickled. As with other exceptions no two are equal: compare number,
+    line and text.
     """
 
-    def __init__(self, number: int, line: int) -> None:
+    def __init__(self, number: int, line: int, text: Optional[int] = None) -> None:
         self.number = Number(number)
         self.line = line
-        super().__init__(self.number, line)
+        self.text = text
+        super().__init__(self.number, line, *(() if text is None else (text,)))
 
     @property
     def words(self) -> str:
@@ -108,10 +120,15 @@ class TurnedAway(Exception):
     @property
     def form(self) -> str:
         """The form that the programs write."""
-        return f"(turned-away {self.number} {self.line})"
+        text = "" if self.text is None else f" {self.text}"
+        return f"(turned-away {self.number} {self.line}{text})"
 
     def __str__(self) -> str:
-        place = f" at line {self.line} of the text" if self.line else ""
+        text = f"the {_ORDINALS[self.text - 1]} text" if self.text else "the text"
+        if self.line:
+            place = f" at line {self.line} of {text}"
+        else:
+            place = f" at {text}" if self.text else ""
         return f"refusal {self.number}{place}: {self.words}"
 
 
@@ -154,6 +171,19 @@ class Quote:
     gates: Tuple[Gate, ...]
 
 
+class Ordering(IntEnum):
+    """What compare finds of its first text beside the second: below 0, 0 or above
+    0, as functools.cmp_to_key asks for."""
+
+    LESS = -1
+    EQUAL = 0
+    GREATER = 1
+
+    def __str__(self) -> str:
+        # Versions before 3.11 would give the name.
+        return str(self.value)
+
+
 def map(text: Text) -> Circuit:
     """Maps a cascade text to a circuit; TurnedAway if it is refused."""
     return _written("map", text)
@@ -169,6 +199,29 @@ def quote(text: Text) -> Quote:
     records = _library.GateList()
     count = _counted(*_library.run("quote", _bytes(text), records))
     return Quote(count, _gates(records[:count]))
+
+
+def compare(first: Text, second: Text) -> Ordering:
+    """Compares two circuit texts; TurnedAway, with the number of the text, if one
+    is refused.
+
+    The circuit on fewer lines is less. On the same number of lines the one is
+    whose reduced list comes first in dictionary order, a list that ends sooner
+    before one that goes on. So two texts are equal exactly if they are on the same
+    number of lines and passes and merges lead from one circuit to the other. The
+    order is total: functools.cmp_to_key(compare) sorts texts, and puts those of one
+    circuit side by side.
+
+    The reduced lists themselves are what reduce gives.
+    """
+    lists = _library.GateList(), _library.GateList()
+    number, line, text, count = _library.run_several(
+        "compare", _bytes(first), lists[0], _bytes(second), lists[1]
+    )
+    found = _counted(number, line, count, text)
+    if found > 2:
+        raise InternalError(f"yilgorza: there is no order {found}")
+    return Ordering(found - 1)
 
 
 def _written(job: str, text: Text) -> Circuit:
@@ -194,12 +247,12 @@ def _bytes(text: Text) -> bytes:
         ) from None
 
 
-def _counted(number: int, line: int, count: int) -> int:
+def _counted(number: int, line: int, count: int, text: Optional[int] = None) -> int:
     if number == 0:
         return count
     if number not in _WORDS:
         raise InternalError(f"yilgorza: there is no refusal {number}")
-    raise TurnedAway(number, line)
+    raise TurnedAway(number, line, text)
 
 
 def _gates(records: Iterable[int]) -> Tuple[Gate, ...]:

@@ -7,7 +7,7 @@ import ctypes
 import os
 from functools import lru_cache
 from pathlib import Path
-from typing import Any, Callable, Dict, List, Tuple
+from typing import Any, Callable, Dict, List, Tuple, Union
 
 _PACKAGED = str(Path(__file__).absolute().with_name("libyilgorza.so"))
 
@@ -17,6 +17,7 @@ ANSWER_BYTES = 45067
 GateList = ctypes.c_uint16 * LIST_RECORDS
 AnswerArea = ctypes.c_uint8 * ANSWER_BYTES
 _Outcome = ctypes.c_uint64 * 3
+_SeveralOutcome = ctypes.c_uint64 * 4
 _GateParts = ctypes.c_uint8 * 3
 
 _TEXT: List[Any] = [ctypes.c_char_p, ctypes.c_size_t]
@@ -29,17 +30,36 @@ _FUNCTIONS: Dict[str, List[Any]] = {
     "map": _TEXT + _LIST + _ANSWER + _OUTCOME,
     "reduce": _TEXT + _LIST + _ANSWER + _OUTCOME,
     "quote": _TEXT + _LIST + _OUTCOME,
+    "compare": _TEXT + _LIST + _TEXT + _LIST + _OUTCOME,
     "gate": [ctypes.c_uint16, ctypes.POINTER(ctypes.c_uint8)],
 }
 
 
-def run(job: str, text: bytes, *areas: ctypes.Array[Any]) -> Tuple[int, int, int]:
-    """Runs a job on a text, with the areas lent to it: number, line and count."""
-    lent = [part for area in areas for part in (area, len(area))]
+# A text, or an area that is lent.
+Lent = Union[bytes, "ctypes.Array[Any]"]
+
+
+def run(job: str, *lent: Lent) -> Tuple[int, int, int]:
+    """Runs a job over one text, on the text and the areas lent to it: number, line
+    and count."""
     outcome = _Outcome()
-    _functions()[job](text, len(text), *lent, outcome)
+    _call(job, lent, outcome)
     number, line, count = outcome
     return number, line, count
+
+
+def run_several(job: str, *lent: Lent) -> Tuple[int, int, int, int]:
+    """Runs a job over several texts, on the texts and the areas in its order:
+    number, line, text and count."""
+    outcome = _SeveralOutcome()
+    _call(job, lent, outcome)
+    number, line, text, count = outcome
+    return number, line, text, count
+
+
+def _call(job: str, lent: Tuple[Lent, ...], outcome: ctypes.Array[Any]) -> None:
+    parts = [part for area in lent for part in (area, len(area))]
+    _functions()[job](*parts, outcome)
 
 
 def gate(record: int) -> Tuple[int, int, int]:

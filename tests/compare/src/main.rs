@@ -1,15 +1,21 @@
 //! Compares the programs and the static library with the peer.
 //!
-//! `compare library`            the C functions on many thousands of texts
-//! `compare programs DIRECTORY` the programs map, reduce and quote in there
-//! `compare small`              reduce on all small circuits, against their
-//!                              whole link classes
+//! `compare library`     the C functions over one text, on many thousands
+//! `compare pairs`       the C function over two texts, on many thousands of pairs
+//! `compare programs DIRECTORY SCRATCH`
+//!                       the programs map, reduce, quote and compare in
+//!                       DIRECTORY, with files in SCRATCH
+//! `compare small`       reduce on all small circuits, and compare on all pairs of
+//!                       smaller ones, against their whole link classes
 //!
 //! Each part prints what it ran; its last line is `N passed, M failed`. The
 //! exit status is 0 only if N is not 0 and M is 0.
 
+mod chain;
 mod circuit;
+mod files;
 mod library;
+mod pairs;
 mod programs;
 mod random;
 mod report;
@@ -22,10 +28,11 @@ fn main() -> std::process::ExitCode {
     let arguments: Vec<&str> = arguments.iter().map(String::as_str).collect();
     let report = match arguments[..] {
         ["library"] => library::run(),
-        ["programs", directory] => programs::run(directory.as_ref()),
+        ["pairs"] => pairs::run(),
+        ["programs", directory, scratch] => programs::run(directory.as_ref(), scratch.as_ref()),
         ["small"] => small::run(),
         _ => {
-            eprintln!("usage: compare library | programs DIRECTORY | small");
+            eprintln!("usage: compare library | pairs | programs DIRECTORY SCRATCH | small");
             return std::process::ExitCode::from(2);
         }
     };

@@ -1,13 +1,16 @@
-//! The programs against the peer: standard input to standard output, nothing
-//! on standard error, exit status 0.
+//! The programs against the peer: those over one text from standard input to
+//! standard output, nothing on standard error, exit status 0; the one over two
+//! texts through files (see `files`).
 
+use crate::files;
 use crate::random::Random;
 use crate::report::{shown, Report};
 use crate::texts;
 use peer::Job;
+use std::ffi::OsString;
 use std::io::{Read, Write};
 use std::path::Path;
-use std::process::{Child, Command, Stdio};
+use std::process::{Child, Command, ExitStatus, Stdio};
 
 const JOBS: [(Job, &str); 3] = [
     (Job::Map, "map"),
@@ -15,7 +18,7 @@ const JOBS: [(Job, &str); 3] = [
     (Job::Quote, "quote"),
 ];
 
-pub fn run(directory: &Path) -> Report {
+pub fn run(directory: &Path, scratch: &Path) -> Report {
     let mut report = Report::new("programs");
     let mut random = Random::seeded(4_711);
     let mut numbers = [0u64; 11];
@@ -29,7 +32,8 @@ pub fn run(directory: &Path) -> Report {
                 text.len().max(1)
             };
             let expected = peer::program_answer(job, &text);
-            let got = answer(&directory.join(name), &text, piece);
+            let got = Written::by(&directory.join(name), &[], &text, piece)
+                .and_then(|written| written.answer());
             let number = match expected.strip_prefix(b"(turned-away ") {
                 None => 0,
                 Some(rest) => rest
@@ -60,6 +64,7 @@ pub fn run(directory: &Path) -> Report {
         "programs: numbers 0 to 9 expected so often: {:?}",
         &numbers[..10]
     );
+    files::run(&mut report, &directory.join("compare"), scratch);
     report
 }
 
@@ -113,37 +118,80 @@ fn all_texts(random: &mut Random, job: Job) -> Vec<Vec<u8>> {
     texts
 }
 
-/// What a program writes for a text that comes in pieces of this size.
-fn answer(program: &Path, text: &[u8], piece: usize) -> Result<Vec<u8>, String> {
-    let mut child = Command::new(program)
-        .stdin(Stdio::piped())
-        .stdout(Stdio::piped())
-        .stderr(Stdio::piped())
-        .spawn()
-        .map_err(|error| format!("{}: {error}", program.display()))?;
-    feed(&mut child, text, piece);
-    let mut written = Vec::new();
-    let mut complaint = Vec::new();
-    child
-        .stdout
-        .take()
-        .unwrap()
-        .read_to_end(&mut written)
-        .map_err(|e| e.to_string())?;
-    child
-        .stderr
-        .take()
-        .unwrap()
-        .read_to_end(&mut complaint)
-        .map_err(|e| e.to_string())?;
-    let status = child.wait().map_err(|e| e.to_string())?;
-    if !status.success() {
-        return Err(format!("{status}, standard error {}", shown(&complaint)));
+/// What a program wrote, and how it ended.
+pub struct Written {
+    output: Vec<u8>,
+    complaint: Vec<u8>,
+    status: ExitStatus,
+}
+
+impl Written {
+    /// Runs a program with these arguments on an input that comes in pieces of
+    /// this size.
+    pub fn by(
+        program: &Path,
+        arguments: &[OsString],
+        input: &[u8],
+        piece: usize,
+    ) -> Result<Written, String> {
+        let mut child = Command::new(program)
+            .args(arguments)
+            .stdin(Stdio::piped())
+            .stdout(Stdio::piped())
+            .stderr(Stdio::piped())
+            .spawn()
+            .map_err(|error| format!("{}: {error}", program.display()))?;
+        feed(&mut child, input, piece);
+        let mut output = Vec::new();
+        let mut complaint = Vec::new();
+        child
+            .stdout
+            .take()
+            .unwrap()
+            .read_to_end(&mut output)
+            .map_err(|e| e.to_string())?;
+        child
+            .stderr
+            .take()
+            .unwrap()
+            .read_to_end(&mut complaint)
+            .map_err(|e| e.to_string())?;
+        let status = child.wait().map_err(|e| e.to_string())?;
+        Ok(Written {
+            output,
+            complaint,
+            status,
+        })
     }
-    if !complaint.is_empty() {
-        return Err(format!("on standard error {}", shown(&complaint)));
+
+    /// What is on standard output, if nothing else is to be said.
+    pub fn answer(&self) -> Result<Vec<u8>, String> {
+        if self.status.success() && self.complaint.is_empty() {
+            Ok(self.output.clone())
+        } else {
+            Err(self.shown())
+        }
     }
-    Ok(written)
+
+    /// Whether it is one line on standard error and nothing on standard output,
+    /// from a program that ended by itself.
+    pub fn is_one_line_of_complaint(&self) -> bool {
+        let lines = self.complaint.iter().filter(|&&byte| byte == b'\n').count();
+        self.status.code().is_some()
+            && self.output.is_empty()
+            && self.complaint.len() > 1
+            && self.complaint.ends_with(b"\n")
+            && lines == 1
+    }
+
+    pub fn shown(&self) -> String {
+        format!(
+            "{}, standard output {}, standard error {}",
+            self.status,
+            shown(&self.output),
+            shown(&self.complaint)
+        )
+    }
 }
 
 /// Writes the text and closes the pipe. A program may stop reading a text that

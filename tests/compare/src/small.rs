@@ -1,10 +1,12 @@
-//! Reduce on all small circuits, against their whole link classes.
+//! Reduce on all small circuits, and compare on all pairs of smaller ones,
+//! against their whole link classes.
 //!
 //! For some lines and some length L, all circuits of at most L gates are nodes,
 //! and each pass and each merge between two of them joins two classes (a step
 //! backwards joins the same two). In each class the expected list is the first
 //! in dictionary order of the shortest; the library has to give it for every
-//! circuit of at most C gates, C < L.
+//! circuit of at most C gates, C < L. Two circuits are equal exactly if they are
+//! of one class, and else in the order of the lists of their classes.
 //!
 //! Chains may lead over circuits longer than L. That these join no further
 //! classes is the confluence of passes and forward merges: a chain over a
@@ -15,14 +17,24 @@
 
 use crate::circuit::{self, merge, pass, text, Gate};
 use crate::report::{shown, Report};
-use crate::subject::{call, Area};
+use crate::subject::{call, compare, Area};
 use peer::Job;
+use std::cmp::Ordering;
 
 /// Lines, C and L.
 const SPACES: [(u8, usize, usize); 4] = [(1, 12, 14), (2, 6, 7), (3, 4, 5), (4, 3, 4)];
+/// The same for the pairs.
+const PAIRS: [(u8, usize, usize); 3] = [(1, 5, 7), (2, 3, 5), (3, 2, 4)];
+const NOT_0: u16 = 2;
 
 pub fn run() -> Report {
     let mut report = Report::new("small");
+    all_circuits(&mut report);
+    all_pairs(&mut report);
+    report
+}
+
+fn all_circuits(report: &mut Report) {
     for (lines, compared, bound) in SPACES {
         let before = report.passed + report.failed;
         let space = Space::new(lines);
@@ -48,18 +60,11 @@ pub fn run() -> Report {
                 &mut list,
                 &mut answer,
             );
-            let (front, rest) = list.inside().split_at(expected.len());
             let passed = outcome.number == 0
                 && outcome.line == 0
                 && outcome.count as usize == expected_text.len()
                 && answer.inside()[..expected_text.len()] == expected_text
-                && front
-                    .iter()
-                    .zip(&expected)
-                    .all(|(record, gate)| *record == gate.record())
-                && rest
-                    .iter()
-                    .all(|&record| record == Gate::Not { target: 0 }.record());
+                && holds(&list, &records(&expected));
             report.case(passed, || {
                 let written = (outcome.count as usize).min(200);
                 format!(
@@ -75,7 +80,66 @@ pub fn run() -> Report {
             report.passed + report.failed - before
         );
     }
-    report
+}
+
+/// A circuit and the list of its class.
+struct Listed {
+    text: Area<u8>,
+    list: Vec<u16>,
+}
+
+fn all_pairs(report: &mut Report) {
+    for (lines, compared, bound) in PAIRS {
+        let before = report.passed + report.failed;
+        let space = Space::new(lines);
+        let classes = space.classes(bound);
+        let circuits: Vec<Listed> = (0..space.circuits_up_to(compared))
+            .map(|node| Listed {
+                text: Area::holding(&text(lines, &space.gates(node)), 0),
+                list: records(&space.gates(classes.first(node))),
+            })
+            .collect();
+        for first in &circuits {
+            for second in &circuits {
+                pair(report, first, second);
+            }
+        }
+        println!(
+            "small: {lines} lines, all pairs of up to {compared} gates: {} cases",
+            report.passed + report.failed - before
+        );
+    }
+}
+
+fn records(gates: &[Gate]) -> Vec<u16> {
+    gates.iter().map(|gate| gate.record()).collect()
+}
+
+fn pair(report: &mut Report, first: &Listed, second: &Listed) {
+    let mut lists = [0, 1].map(|_| Area::filled(4_096, 0xffff));
+    let outcome = compare([&first.text, &second.text], lists.each_mut());
+    let expected = match first.list.cmp(&second.list) {
+        Ordering::Less => 0,
+        Ordering::Equal => 1,
+        Ordering::Greater => 2,
+    };
+    let passed = (outcome.number, outcome.line, outcome.text) == (0, 0, 0)
+        && outcome.count == expected
+        && holds(&lists[0], &first.list)
+        && holds(&lists[1], &second.list);
+    report.case(passed, || {
+        format!(
+            "{} and {} give {outcome:?}, expected {expected}, or another list than expected",
+            shown(first.text.inside()),
+            shown(second.text.inside())
+        )
+    });
+}
+
+/// Whether a list holds first these records, then `not 0`.
+fn holds(list: &Area<u16>, expected: &[u16]) -> bool {
+    let (front, rest) = list.inside().split_at(expected.len());
+    front == expected && rest.iter().all(|&record| record == NOT_0)
 }
 
 /// All circuits on some lines, numbered by length and then in dictionary order:

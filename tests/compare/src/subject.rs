@@ -3,8 +3,8 @@
 #[path = "../../../examples/rust/src/declared.rs"]
 mod declared;
 
-use declared::{yilgorza_gate, yilgorza_map, yilgorza_quote, yilgorza_reduce};
-use peer::{Job, Outcome};
+use declared::{yilgorza_compare, yilgorza_gate, yilgorza_map, yilgorza_quote, yilgorza_reduce};
+use peer::{comparison, Job, Outcome};
 
 /// How many records or bytes before and after each area are watched.
 const GUARD: usize = 32;
@@ -45,7 +45,7 @@ impl<T: Copy + PartialEq> Area<T> {
     }
 }
 
-/// Calls one of the C functions. `answer` is left alone by quote.
+/// Calls one of the C functions over one text. `answer` is left alone by quote.
 pub fn call(job: Job, text: &Area<u8>, list: &mut Area<u16>, answer: &mut Area<u8>) -> Outcome {
     // One more word before and after, to see writes beside the three.
     let mut outcome = [u64::MAX; 5];
@@ -74,6 +74,40 @@ pub fn call(job: Job, text: &Area<u8>, list: &mut Area<u16>, answer: &mut Area<u
         number: outcome[1],
         line: outcome[2],
         count: outcome[3],
+    }
+}
+
+/// Calls the C function over two texts, each with its list.
+pub fn compare(texts: [&Area<u8>; 2], lists: [&mut Area<u16>; 2]) -> comparison::Outcome {
+    // One more word before and after, to see writes beside the four.
+    let mut outcome = [u64::MAX; 6];
+    let [first, second] = texts.map(Area::inside);
+    let [first_list, second_list] = lists.map(Area::inside_mut);
+    // The areas are live, of the lengths given, and those written don't overlap
+    // any other.
+    unsafe {
+        yilgorza_compare(
+            first.as_ptr(),
+            first.len(),
+            first_list.as_mut_ptr(),
+            first_list.len(),
+            second.as_ptr(),
+            second.len(),
+            second_list.as_mut_ptr(),
+            second_list.len(),
+            outcome.as_mut_ptr().add(1),
+        );
+    }
+    let [before, number, line, text, count, after] = outcome;
+    assert!(
+        before == u64::MAX && after == u64::MAX,
+        "a word beside the outcome was written"
+    );
+    comparison::Outcome {
+        number,
+        line,
+        text,
+        count,
     }
 }
 

@@ -51,7 +51,7 @@ fn most_controls(lines: u8) -> usize {
     }
 }
 
-fn some_lines(random: &mut Random) -> u8 {
+pub fn some_lines(random: &mut Random) -> u8 {
     (if random.one_in(3) {
         random.between(1, 32)
     } else {

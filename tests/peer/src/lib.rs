@@ -1,18 +1,21 @@
-//! A second implementation of the three jobs (map, reduce, quote), written
-//! from the scope document alone, in plain Rust. The comparisons take it as the
-//! expected answer, the benchmark as the peer in speed.
+//! A second implementation of the jobs (map, reduce, quote, compare), written
+//! from the scope document and the orders alone, in plain Rust. The comparisons
+//! take it as the expected answer, the benchmark as the peer in speed.
 //!
 //! Modules: `gate` (gates, their numbers and when two pass), `reader` (the two
 //! texts and rules 3 to 9), `expansion` (from mct gates to NCV gates),
-//! `reduction` (merge to a fixed point, then order by selection). This file
-//! holds the jobs themselves: the lent memory and rules 1, 2 and 10.
+//! `reduction` (merge to a fixed point, then order by selection), `comparison`
+//! (the job over two texts, and its program). This file holds the jobs over one
+//! text: the lent memory and rules 1, 2 and 10.
 
+pub mod comparison;
 pub mod expansion;
 pub mod gate;
 pub mod reader;
 pub mod reduction;
 
 use gate::Gate;
+use std::io::{self, Read, Write};
 
 /// The longest text, in bytes (rule 1).
 pub const LONGEST_TEXT: usize = 60_000;
@@ -38,6 +41,14 @@ pub struct Refusal {
     pub line: u64,
 }
 
+impl Refusal {
+    /// Numbers 1 and 2 leave every lent list unchanged, the others leave `not 0`
+    /// in every record.
+    fn clears(self) -> bool {
+        self.number > 2
+    }
+}
+
 impl From<Refusal> for Outcome {
     fn from(refusal: Refusal) -> Outcome {
         Outcome {
@@ -49,9 +60,22 @@ impl From<Refusal> for Outcome {
 }
 
 /// The number of lines and the gates of a text, expanded where it is a cascade.
+/// The fields stand in the order in which circuits compare: the number of lines,
+/// then the gates in dictionary order, a list that ends sooner first.
+#[derive(PartialEq, Eq, PartialOrd, Ord)]
 pub struct Circuit {
     pub lines: u8,
     pub gates: Vec<Gate>,
+}
+
+impl Circuit {
+    /// The reduced list on the same lines.
+    fn reduced(self) -> Circuit {
+        Circuit {
+            lines: self.lines,
+            gates: reduction::reduce(&self.gates),
+        }
+    }
 }
 
 #[derive(Clone, Copy, Debug, PartialEq, Eq)]
@@ -111,22 +135,24 @@ fn writing_job(kind: Kind, text: &[u8], list: &mut [u16], answer: &mut [u8]) -> 
 /// Rules 1 to 9, then the reduced list. Any refusal from rule 3 on clears the
 /// gate list; on success it is still as it was lent.
 fn reduced(kind: Kind, text: &[u8], list: &mut [u16]) -> Result<Circuit, Refusal> {
+    let circuit = judged(kind, text, list.len()).inspect_err(|refusal| {
+        if refusal.clears() {
+            fill(list, &[]);
+        }
+    })?;
+    Ok(circuit.reduced())
+}
+
+/// Rules 1 to 9: the circuit of a text that is judged with a list of so many
+/// records.
+fn judged(kind: Kind, text: &[u8], list_len: usize) -> Result<Circuit, Refusal> {
     if text.len() > LONGEST_TEXT {
         return Err(Refusal { number: 1, line: 0 });
     }
-    if list.len() < SHORTEST_LIST {
+    if list_len < SHORTEST_LIST {
         return Err(Refusal { number: 2, line: 0 });
     }
-    match reader::read(kind, text) {
-        Err(refusal) => {
-            fill(list, &[]);
-            Err(refusal)
-        }
-        Ok(circuit) => Ok(Circuit {
-            lines: circuit.lines,
-            gates: reduction::reduce(&circuit.gates),
-        }),
-    }
+    reader::read(kind, text)
 }
 
 /// Puts the gates first and `not 0` in every later record.
@@ -170,7 +196,7 @@ fn put_number(text: &mut Vec<u8>, number: u8) {
     text.push(b'0' + number % 10);
 }
 
-/// What the program of a job writes for a text: the answer, or the form
+/// What the program of a job over one text writes: the answer, or the form
 /// `(turned-away r l)`.
 pub fn program_answer(job: Job, text: &[u8]) -> Vec<u8> {
     let mut list = [0u16; SHORTEST_LIST];
@@ -192,6 +218,7 @@ pub fn program_answer(job: Job, text: &[u8]) -> Vec<u8> {
     }
 }
 
+/// The jobs over one text.
 #[derive(Clone, Copy, Debug, PartialEq, Eq)]
 pub enum Job {
     Map,
@@ -199,17 +226,20 @@ pub enum Job {
     Quote,
 }
 
-/// The whole of a program: standard input to standard output.
-pub fn run_program(job: Job) -> std::io::Result<()> {
-    use std::io::{Read, Write};
+/// The whole of a program over one text: standard input to standard output.
+pub fn run_program(job: Job) -> io::Result<()> {
+    let text = whole_text(io::stdin().lock())?;
+    io::stdout().lock().write_all(&program_answer(job, &text))
+}
+
+/// The text that a program reads: one byte past the longest is enough to refuse
+/// it.
+fn whole_text(source: impl Read) -> io::Result<Vec<u8>> {
     let mut text = Vec::with_capacity(LONGEST_TEXT + 1);
-    std::io::stdin()
-        .lock()
+    source
         .take(LONGEST_TEXT as u64 + 1)
         .read_to_end(&mut text)?;
-    std::io::stdout()
-        .lock()
-        .write_all(&program_answer(job, &text))
+    Ok(text)
 }
 
 #[cfg(test)]

@@ -19,7 +19,7 @@ same-length-2 c = search needs
 returns : tie.Need-returns
 returns c =
     let handed = c .before .before .before .before .before .before .before .text-codes in
-    told (search needs) (handed .ensures) (c .before .before .hand-over .ensures)
+    told (handed .ensures) (c .before .before .hand-over .ensures)
 
 pub answer-text-spec : {M : Type 1} → statement M
 answer-text-spec =

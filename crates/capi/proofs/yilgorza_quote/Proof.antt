@@ -16,7 +16,7 @@ same-length c = search needs
 returns : tie.Need-returns
 returns c =
     let handed = c .before .before .before .before .before .quote-codes in
-    told (search needs) (handed .ensures) (c .before .before .hand-over .ensures)
+    told (handed .ensures) (c .before .before .hand-over .ensures)
 
 pub yilgorza-quote-spec : {M : Type 1} → statement M
 yilgorza-quote-spec =

@@ -1,8 +1,6 @@
 -- `console::run_on` hands over the bytes that the program is to write. Assumes nothing.
 use borrow.Author.Needs.{needs}
-use mathlib.Core.Path.{sym}
-use lib.Seq.{length-take-le}
-use Rattle.console.proofs.Answers.{answer-within, answer-prints}
+use Rattle.console.proofs.Front.{fronts-within, fronts-are, fronts-part}
 use Rattle.console.proofs.run_on.Statement.{statement}
 use Rattle.console.proofs.run_on.Tie as tie
 
@@ -10,13 +8,13 @@ answer-requires : tie.Need-answer-requires
 answer-requires c κs = search needs
 
 array-share-prefix-out : tie.Need-array-share-prefix-out
-array-share-prefix-out c = answer-within (c .answer .ensures)
+array-share-prefix-out c = fronts-within (c .answer .ensures .fronts)
 
 slice-aggregate-print : tie.Need-slice-aggregate-print
-slice-aggregate-print c = sym (length-take-le _ _ (answer-within (c .before .answer .ensures)))
+slice-aggregate-print c = fronts-part (c .before .answer .ensures .fronts)
 
 print-requires : tie.Need-print-requires
-print-requires c κs = answer-prints (c .before .answer .ensures)
+print-requires c κs = let x = c .before .answer .ensures in rw (fronts-are (x .fronts)) (x .prints)
 
 returns : tie.Need-returns
 returns c = search needs

@@ -12,4 +12,4 @@ use Rattle.jobs.proofs.map.Code as code
 pub map-spec : {M : Type 1} → stated.statement M
 unfolding code.routine
 map-spec 𝓤 H 𝓜 𝓖 𝓡 = proved (Hands mapping) (Said mapping) (leads mapping)
-    𝓤 H 𝓜 𝓖 𝓡 code.env #job codes-def.name codes-def.routine code.calls-jobs·map-codes code.calls-records·finish (code.unfolded 𝓤 H 𝓜 𝓡) (codes-thm.met 𝓤 H 𝓜 𝓖 𝓡)
+    𝓤 H 𝓜 𝓖 𝓡 code.env #job codes-def.name codes-def.routine code.calls-jobs·map-codes code.calls-records·fill (code.unfolded 𝓤 H 𝓜 𝓡) (codes-thm.met 𝓤 H 𝓜 𝓖 𝓡)

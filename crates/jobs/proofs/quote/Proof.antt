@@ -12,5 +12,5 @@ use Rattle.jobs.proofs.quote.Code as code
 
 pub quote-spec : {M : Type 1} → stated.statement M
 unfolding code.routine
-quote-spec 𝓤 H 𝓜 𝓖 𝓡 = proved (λ t n d. Hands quoting t n [] d []) (λ t l o l′. Said quoting t l [] o l′ []) (record { fits = λ t n d h. h .fits; tells = λ t l d h. h .tells l refl })
-    𝓤 H 𝓜 𝓖 𝓡 code.env #job codes-def.name codes-def.routine code.calls-jobs·quote-codes code.calls-records·finish (code.unfolded 𝓤 H 𝓜 𝓡) (codes-thm.met 𝓤 H 𝓜 𝓖 𝓡)
+quote-spec 𝓤 H 𝓜 𝓖 𝓡 = proved (λ t n d. Hands quoting t n [] d []) (λ t l o l′. Said quoting t l [] o l′ []) (record { fits = λ t n d h. h .settles .fits; tells = λ t l d h. h .tells l refl })
+    𝓤 H 𝓜 𝓖 𝓡 code.env #job codes-def.name codes-def.routine code.calls-jobs·quote-codes code.calls-records·fill (code.unfolded 𝓤 H 𝓜 𝓡) (codes-thm.met 𝓤 H 𝓜 𝓖 𝓡)

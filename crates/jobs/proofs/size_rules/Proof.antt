@@ -2,7 +2,7 @@
 use native.Mathlib.Omega.{arith}
 use borrow.Author.Tests.{lt-ltb, le-ltb}
 use Rattle.text.specs.Judging.{first}
-use Rattle.jobs.specs.Jobs.{size-rules}
+use Rattle.habits.specs.Habits.{size-rules}
 use Rattle.jobs.proofs.size_rules.Statement.{statement}
 use Rattle.jobs.proofs.size_rules.Tie as tie
 

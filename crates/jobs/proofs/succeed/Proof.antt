@@ -1,12 +1,15 @@
 -- `jobs::succeed` meets its contract. Assumes nothing.
-use mathlib.Core.Path.{refl}
+use borrow.Author.Needs.{needs}
 use Rattle.jobs.specs.Handing.{succeeded}
 use Rattle.jobs.proofs.succeed.Statement.{statement}
 use Rattle.jobs.proofs.succeed.Tie as tie
 
+succeed-list-requires : tie.Need-succeed-list-requires
+succeed-list-requires c κs = search needs
+
 returns : tie.Need-returns
 unfolding succeeded
-returns c = refl
+returns c = rw (c .succeed-list .ensures)
 
 pub succeed-spec : {M : Type 1} → statement M
-succeed-spec = tie.close (tie.spec returns)
+succeed-spec = tie.close (tie.spec succeed-list-requires returns)

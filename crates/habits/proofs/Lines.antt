@@ -1,0 +1,92 @@
+-- The refusals of a text's lines: of any text 3 to 9, of a circuit 3, 4, 5 and 9, each with a line counted from 1. Assumes nothing.
+use Prim.Native.Nat.{ℕ, _+_, _≤_}
+use mathlib.Core.Path.{_≡_, subst}
+use mathlib.Core.Bool.{false≢true}
+use mathlib.Core.List.{List, [], _∷_, _++_}
+use native.Mathlib.Omega.{arith}
+use Rattle.gates.specs.declared.Gate.{Gate}
+use Rattle.gates.specs.declared.Gate.the-variants.{Not, Powered}
+use Rattle.text.specs.declared.Refusal.{Refusal}
+use Rattle.text.specs.declared.Refusal.the-variants.{Malformed, NoSuchLine, Crossed, TooMany}
+use Rattle.text.specs.declared.Head.{Head}
+use Rattle.text.specs.declared.Kind.{Kind}
+use Rattle.text.specs.declared.Kind.the-variants.{Circuit}
+use Rattle.text.specs.Refusals.{number-of}
+use Rattle.text.specs.Text.{Form, lines, gate, mct}
+use Rattle.text.specs.Reading.{Line, in-form, unformed, cut}
+use Rattle.text.specs.Judging.{Judged, turned-away, accepted, gates, controls, belongs, rising, Found, sound, breaks, first, head-rules, rules, or-else, judge-lines, judge-text, read-all, judge}
+use Rattle.habits.proofs.Rules.{In, first-in}
+
+-- ---- what holds of every refusal by the rules of a line holds of the text's
+
+-- a refusal in O, with a line counted from 1
+abbrev ByLine : (Refusal → Type 0) → Judged → Type 0
+ByLine O (turned-away r l) = O r × (1 ≤ l)
+ByLine O (accepted h c) = Unit {0}
+
+-- of rules tried in order, and of what comes after them
+by-rules : (O : Refusal → Type 0) (f : Found) (l : ℕ) (j : Judged) → In O f → 1 ≤ l → ByLine O j → ByLine O (or-else f l j)
+unfolding or-else
+by-rules O sound l j a h b = b
+by-rules O (breaks r) l j a h b = (a, h)
+
+-- 3 and 4 are in O, and what the rules of each line of a text of this kind find
+module _ (k : Kind) (O : Refusal → Type 0) (form : O Malformed) (head : O NoSuchLine) (line : (h : Head) (before : ℕ) (c : List Gate) (f : Form) → In O (first (rules k h before c f))) where
+  -- the lines after line 1
+  lines-by-line : (h : Head) (before : ℕ) (c : List Gate) (ls : List Line) → ByLine O (judge-lines k h before c ls)
+  unfolding judge-lines
+  lines-by-line h before c [] = tt
+  lines-by-line h before c (unformed ∷ ls) = (form, omega arith)
+  lines-by-line h before c (in-form f ∷ ls) = by-rules O (first (rules k h before c f)) (before + 2) _ (line h before c f) (omega arith) (lines-by-line h (before + 1) (c ++ gates (h .lines) f) ls)
+
+  -- all lines
+  text-by-line : (ls : List Line) → ByLine O (judge-text k ls)
+  unfolding judge-text head-rules
+  text-by-line [] = (form, omega arith)
+  text-by-line (unformed ∷ ls) = (form, omega arith)
+  text-by-line (in-form (gate g) ∷ ls) = (form, omega arith)
+  text-by-line (in-form (mct cs t) ∷ ls) = (form, omega arith)
+  text-by-line (in-form (lines n) ∷ ls) = by-rules O (first (head-rules n)) 1 _ (first-in O (head-rules n) (λ _. head, tt)) (omega arith) (lines-by-line (record { lines = n }) 0 [] ls)
+
+  -- the text
+  judge-in : (s : List ℕ) {r : Refusal} {l : ℕ} → judge k s ≡ turned-away r l → O r × (1 ≤ l)
+  unfolding judge
+  judge-in s e = subst (ByLine O) e (text-by-line (read-all (cut s)))
+
+-- ---- of any text: 3 to 9
+
+-- a refusal by a rule of the lines
+abbrev OfLine : Refusal → Type 0
+OfLine r = (3 ≤ number-of r) × (number-of r ≤ 9)
+
+rules-of-line : (k : Kind) (h : Head) (before : ℕ) (c : List Gate) (f : Form) → In OfLine (first (rules k h before c f))
+unfolding rules
+rules-of-line k h before c f = first-in OfLine (rules k h before c f)
+    (λ _. (omega arith, omega arith), (λ _. (omega arith, omega arith), (λ _. (omega arith, omega arith), (λ _. (omega arith, omega arith), (λ _. (omega arith, omega arith), (λ _. (omega arith, omega arith), (λ _. (omega arith, omega arith), tt)))))))
+
+-- "each whole line tried against 3 to 9 in that order; the first failing line, counted from 1, is returned"
+pub judge-by-line : (k : Kind) (s : List ℕ) {r : Refusal} {l : ℕ} → judge k s ≡ turned-away r l → (3 ≤ number-of r) × (number-of r ≤ 9) × (1 ≤ l)
+judge-by-line k s e = let z = judge-in k OfLine (omega arith, omega arith) (omega arith, omega arith) (rules-of-line k) s e in (z .0 .0, z .0 .1, z .1)
+
+-- ---- of a circuit: 3, 4, 5 and 9
+
+-- a refusal by a rule of a circuit's lines
+pub data OfCircuit : Refusal → Type 0 where
+  malformed : OfCircuit Malformed
+  no-such-line : OfCircuit NoSuchLine
+  crossed : OfCircuit Crossed
+  too-many : OfCircuit TooMany
+
+-- a gate has at most one control: rules 6, 7 and 8 let it pass
+rules-of-circuit : (h : Head) (before : ℕ) (c : List Gate) (f : Form) → In OfCircuit (first (rules Circuit h before c f))
+unfolding rules first belongs controls rising
+rules-of-circuit h before c (lines n) = malformed
+rules-of-circuit h before c (mct cs t) = malformed
+rules-of-circuit h before c (gate (Not t)) =
+    first-in OfCircuit (rules Circuit h before c (gate (Not t))) (λ _. malformed, (λ _. no-such-line, (λ _. crossed, (λ b. absurd (false≢true b), (λ b. absurd (false≢true b), (λ b. absurd (false≢true b), (λ _. too-many, tt)))))))
+rules-of-circuit h before c (gate (Powered p d t)) =
+    first-in OfCircuit (rules Circuit h before c (gate (Powered p d t))) (λ _. malformed, (λ _. no-such-line, (λ _. crossed, (λ b. absurd (false≢true b), (λ b. absurd (false≢true b), (λ b. absurd (false≢true b), (λ _. too-many, tt)))))))
+
+-- no circuit text is refused by another
+pub judge-of-circuit : (s : List ℕ) {r : Refusal} {l : ℕ} → judge Circuit s ≡ turned-away r l → OfCircuit r
+judge-of-circuit s e = judge-in Circuit OfCircuit malformed no-such-line rules-of-circuit s e .0

@@ -1,0 +1,1 @@
+// The habits of jobs over several texts: definitions and theorems only.
