@@ -14,7 +14,7 @@ use Rattle.ordering.specs.declared.Comparison.{Comparison}
 use Rattle.ordering.specs.declared.Comparison.the-variants.{Less, Equal, Greater}
 use Rattle.ordering.specs.Comparing.{count-of, Compares}
 use Rattle.ordering.proofs.Linked.{reduced-compares}
-use Rattle.writing.specs.Decimal.{text-turned-away}
+use Rattle.forms.specs.Forms.{text-turned-away}
 use Rattle.habits.specs.Habits.{Judgement, fine, away, Circuit, Lent, Exit, Answer, refusal, success, answered, Says}
 use Rattle.habits.proofs.Says.{says-away, says-fine}
 use Rattle.records.specs.declared.TextOutcome.{TextOutcome}

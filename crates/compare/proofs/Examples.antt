@@ -15,7 +15,8 @@ use Rattle.text.specs.Reading.{strip, second, num, tail, pair, list, many, line
 use Rattle.text.specs.Judging as J
 use Rattle.text.specs.Judging.{belongs, most, any-from, rising, first, head-rules, rules, or-else, judge-lines, judge-text, read-all, judge}
 use Rattle.ordering.specs.Comparing.{then, compare-numbers, compare-gates, dictionary, compare-lists}
-use Rattle.writing.specs.Decimal.{last-digits, decimal, three-numbers}
+use Rattle.writing.specs.Decimal.{last-digits, decimal}
+use Rattle.forms.specs.Forms.{three-numbers}
 use Rattle.habits.specs.Habits.{passes, size-rules, taken, told, text-judged}
 use Rattle.jobs.specs.Examples.{typed}
 use Rattle.comparison.specs.Compare.{judged}

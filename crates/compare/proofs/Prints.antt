@@ -1,6 +1,6 @@
 -- What the program writes: for every two texts exactly one thing, and its last byte is 10. Assumes nothing.
 use mathlib.Core.Path.{_≡_, refl, sym, ap, _∙_}
-use mathlib.Core.List.{List}
+use mathlib.Core.List.{List, [], _++_}
 use Prim.Native.Nat.{ℕ}
 use Rattle.text.specs.Refusals.{number-of}
 use Rattle.text.specs.Text.{bytes}
@@ -9,14 +9,15 @@ use Rattle.ordering.specs.declared.Comparison.{Comparison}
 use Rattle.ordering.specs.declared.Comparison.the-variants.{Less, Equal, Greater}
 use Rattle.ordering.specs.Comparing.{compare-lists}
 use Rattle.ordering.proofs.Linked.{reduced-compares, compares-one}
-use Rattle.writing.specs.Decimal.{text-turned-away}
+use Rattle.writing.specs.Decimal.{decimal, two-numbers}
+use Rattle.forms.specs.Forms.{three-numbers, text-turned-away}
 use Rattle.habits.specs.Habits.{Judgement, fine, away, Circuit}
 use Rattle.habits.specs.Demands.{One}
 use Rattle.habits.proofs.Yields.{yields-fine}
 use Rattle.comparison.specs.Compare.{judged}
 use Rattle.comparison.proofs.One.{yields-judged}
 use Rattle.console.proofs.Front.{fronts-one}
-use Rattle.console.proofs.Ended.{Ended, three-numbers-ended}
+use Rattle.console.proofs.Ended.{Ended, behind, two-numbers-ended}
 use Rattle.compare.specs.Output.{shown, PrintsBy, Prints, Answers}
 
 -- ---- exactly one
@@ -59,6 +60,11 @@ shown-ended : (k : Comparison) → Ended (shown k)
 shown-ended Less = (bytes "(less)", refl)
 shown-ended Equal = (bytes "(equal)", refl)
 shown-ended Greater = (bytes "(greater)", refl)
+
+-- a form of three numbers, which ends as one of two
+three-numbers-ended : (w : List ℕ) (k m n : ℕ) → Ended (three-numbers w k m n)
+unfolding three-numbers two-numbers
+three-numbers-ended w k m n = behind w (behind (decimal k ++ bytes " ") (two-numbers-ended [] m n))
 
 -- a refusal too
 shows-ended : (v : Judgement (Circuit × Circuit)) (w : List ℕ) → PrintsBy v w → Ended w

@@ -7,7 +7,7 @@ use Rattle.text.specs.Text.{bytes}
 use Rattle.ordering.specs.declared.Comparison.{Comparison}
 use Rattle.ordering.specs.declared.Comparison.the-variants.{Less, Equal, Greater}
 use Rattle.ordering.specs.Comparing.{Compares}
-use Rattle.writing.specs.Decimal.{text-turned-away}
+use Rattle.forms.specs.Forms.{text-turned-away}
 use Rattle.habits.specs.Habits.{Judgement, fine, away, Circuit}
 use Rattle.comparison.specs.Compare.{judged}
 use Rattle.console.specs.Output.{Fronts}

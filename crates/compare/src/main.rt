@@ -21,12 +21,12 @@ fn write_comparison(count: usize, out: &mut [u8; ANSWER_BYTES]) -> usize
     ensures { λ r. ⌜ ((k : Comparison) → count ≡ count-of k → Fronts (now (out .entry)) r (now (out .exit)) (shown k)) ⌝ }
 {
     if count == 0 {
-        return writing::write_word(b"(less)\n", out);
+        return forms::write_word(b"(less)\n", out);
     }
     if count == 1 {
-        return writing::write_word(b"(equal)\n", out);
+        return forms::write_word(b"(equal)\n", out);
     }
-    writing::write_word(b"(greater)\n", out)
+    forms::write_word(b"(greater)\n", out)
 }
 
 // Leaves at the front of the area the bytes that the program writes for two texts, and gives their number.
@@ -36,7 +36,7 @@ fn answer(first: &[u8], second: &[u8], out: &mut [u8; ANSWER_BYTES]) -> usize
     let d = comparison::compare_codes(first, RECORDS, second, RECORDS);
     let outcome = d.outcome;
     if outcome.number != 0 {
-        return writing::write_text_turned_away(outcome.number, outcome.line, outcome.text, out);
+        return forms::write_turned_away(outcome.number, outcome.line, outcome.text, out);
     }
     write_comparison(outcome.count, out)
 }

@@ -3,7 +3,7 @@ use mathlib.Core.Path.{_≡_, refl, sym, ap, _∙_}
 use mathlib.Core.List.{List, [], _∷_, _++_, append-assoc}
 use Prim.Native.Nat.{ℕ}
 use Rattle.text.specs.Text.{bytes}
-use Rattle.writing.specs.Decimal.{decimal, one-number, two-numbers, three-numbers}
+use Rattle.writing.specs.Decimal.{decimal, one-number, two-numbers}
 
 -- the last byte is 10
 abbrev pub Ended : List ℕ → Type 0
@@ -17,7 +17,7 @@ behind u (v, e) = (u ++ v, ap (λ (t : List ℕ). u ++ t) e ∙ sym (append-asso
 pub bracket : Ended (bytes ")\n")
 bracket = (41 ∷ [], refl)
 
--- a form of one number, of two and of three
+-- a form of one number and one of two
 pub one-number-ended : (w : List ℕ) (n : ℕ) → Ended (one-number w n)
 unfolding one-number
 one-number-ended w n = behind w (behind (decimal n) bracket)
@@ -25,7 +25,3 @@ one-number-ended w n = behind w (behind (decimal n) bracket)
 pub two-numbers-ended : (w : List ℕ) (m n : ℕ) → Ended (two-numbers w m n)
 unfolding two-numbers
 two-numbers-ended w m n = behind w (behind (decimal m ++ bytes " ") (behind (decimal n) bracket))
-
-pub three-numbers-ended : (w : List ℕ) (k m n : ℕ) → Ended (three-numbers w k m n)
-unfolding three-numbers
-three-numbers-ended w k m n = behind w (behind (decimal k ++ bytes " ") (behind (decimal m ++ bytes " ") (behind (decimal n) bracket)))

@@ -14,7 +14,7 @@ use Rattle.gates.specs.Code.{gates, Code}
 use Rattle.text.specs.Text.{Form, lines, gate, bytes, one, two, word, render, rendered, circuit-text, Proper}
 use Rattle.text.proofs.Written.{gate-proper}
 use Rattle.writing.specs.Written.{gate-lines}
-use Rattle.writing.specs.Decimal.{decimal, one-number, two-numbers, three-numbers}
+use Rattle.writing.specs.Decimal.{decimal, one-number, two-numbers}
 use Rattle.writing.proofs.Numbers.{digits-decimal}
 use Rattle.gates.specs.Code as C
 
@@ -27,11 +27,6 @@ length-one w n = simp length-append
 pub length-two : (w : List ℕ) (m n : ℕ) → length (two-numbers w m n) ≡ length w + (length (decimal m) + 1 + (length (decimal n) + 2))
 unfolding two-numbers
 length-two w m n = simp length-append
-
--- behind the first number stands a form of two with nothing before it
-pub length-three : (w : List ℕ) (k m n : ℕ) → length (three-numbers w k m n) ≡ length w + (length (decimal k) + 1 + length (two-numbers [] m n))
-unfolding three-numbers two-numbers
-length-three w k m n = simp length-append (omega arith)
 
 lines-line : (n : ℕ) → n < 100 → render (lines n) ≡ one-number (bytes "(lines ") n
 unfolding render one one-number

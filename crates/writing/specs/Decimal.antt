@@ -1,5 +1,4 @@
--- Numbers in decimal, and the forms that the programs write beside circuit texts: `(turned-away r l)`, with a text number where the job is over
--- several texts, and `(quote c)`. Assumes nothing.
+-- Numbers in decimal, and the two forms that the programs write beside circuit texts: `(turned-away r l)` and `(quote c)`. Assumes nothing.
 use mathlib.Core.Bool.{cond}
 use mathlib.Core.List.{List, [], _∷_, _++_}
 use Prim.Native.Nat.{ℕ, zero, suc, _+_, _/_, _%_}
@@ -15,23 +14,16 @@ last-digits (suc f) n = cond (ltb n 10) ((48 + n) ∷ []) (last-digits f (n / 10
 unfoldable pub decimal : ℕ → List ℕ
 decimal n = last-digits (suc n) n
 
--- a form of one number, of two and of three, with the bytes that open it; each is ended by byte 10
+-- a form of one number and one of two, with the bytes that open it; each is ended by byte 10
 unfoldable pub one-number : List ℕ → ℕ → List ℕ
 one-number w n = w ++ (decimal n ++ bytes ")\n")
 
 unfoldable pub two-numbers : List ℕ → ℕ → ℕ → List ℕ
 two-numbers w m n = w ++ ((decimal m ++ bytes " ") ++ (decimal n ++ bytes ")\n"))
 
-unfoldable pub three-numbers : List ℕ → ℕ → ℕ → ℕ → List ℕ
-three-numbers w k m n = w ++ ((decimal k ++ bytes " ") ++ ((decimal m ++ bytes " ") ++ (decimal n ++ bytes ")\n")))
-
 -- `(turned-away r l)` with refusal number r and line l
 abbrev pub turned-away : ℕ → ℕ → List ℕ
 turned-away r l = two-numbers (bytes "(turned-away ") r l
-
--- of a job over several texts: `(turned-away r l t)` with the text number t behind them
-abbrev pub text-turned-away : ℕ → ℕ → ℕ → List ℕ
-text-turned-away r l t = three-numbers (bytes "(turned-away ") r l t
 
 -- `(quote c)` with the gate count c
 abbrev pub quote : ℕ → List ℕ

@@ -1,4 +1,4 @@
-// The writer: a list of gate codes as a circuit text, and the forms and words that the programs write beside it.
+// The writer: a list of gate codes as a circuit text, and the two forms that the programs write beside it.
 ghost use mathlib.Core.Path.{_≡_};
 ghost use mathlib.Core.List.{_∷_, [], _++_};
 ghost use Prim.Native.Nat.{_+_, _≤_, _<_};
@@ -6,12 +6,12 @@ ghost use lib.ListN.{length, take, drop};
 ghost use Rattle.gates.specs.Code.{gates, AllCodes};
 ghost use Rattle.text.specs.Text.{gate, word, render, Proper, circuit-text};
 ghost use Rattle.writing.specs.Written.{Puts, gate-lines};
-ghost use Rattle.writing.specs.Decimal.{decimal, one-number, two-numbers, three-numbers, turned-away, text-turned-away, quote};
+ghost use Rattle.writing.specs.Decimal.{decimal, one-number, two-numbers, turned-away, quote};
 use gates::Gate;
 use text::Head;
 
 // Writes bytes at a place, and gives the place behind them, as each `put` below does.
-fn put(out: &mut [u8], at: usize, bytes: &[u8]) -> usize
+pub fn put(out: &mut [u8], at: usize, bytes: &[u8]) -> usize
     requires { ⌜ at + length (now bytes) ≤ length (now out) ⌝ }
     ensures { λ r. ⌜ Puts (now (out .entry)) (now (out .exit)) at r (now (bytes .entry)) ⌝ }
 {
@@ -45,7 +45,7 @@ fn put_number(out: &mut [u8], at: usize, n: usize) -> usize
 }
 
 // A number, and the bytes behind it.
-fn put_and(out: &mut [u8], at: usize, n: usize, behind: &[u8]) -> usize
+pub fn put_and(out: &mut [u8], at: usize, n: usize, behind: &[u8]) -> usize
     requires { ⌜ at + (length (decimal n) + length (now behind)) ≤ length (now out) ⌝ }
     ensures { λ r. ⌜ Puts (now (out .entry)) (now (out .exit)) at r (decimal n ++ now (behind .entry)) ⌝ }
 {
@@ -63,23 +63,13 @@ fn put_one(out: &mut [u8], at: usize, opening: &[u8], n: usize) -> usize
 }
 
 // A form of two numbers.
-fn put_two(out: &mut [u8], at: usize, opening: &[u8], m: usize, n: usize) -> usize
+pub fn put_two(out: &mut [u8], at: usize, opening: &[u8], m: usize, n: usize) -> usize
     requires { ⌜ at + length (two-numbers (now opening) m n) ≤ length (now out) ⌝ }
     ensures { λ r. ⌜ Puts (now (out .entry)) (now (out .exit)) at r (two-numbers (now (opening .entry)) m n) ⌝ }
 {
     let first = put(out, at, opening);
     let second = put_and(out, first, m, b" ");
     put_and(out, second, n, b")\n")
-}
-
-// A form of three numbers: the first behind the opening, then one of two with nothing before it.
-fn put_three(out: &mut [u8], at: usize, opening: &[u8], k: usize, m: usize, n: usize) -> usize
-    requires { ⌜ at + length (three-numbers (now opening) k m n) ≤ length (now out) ⌝ }
-    ensures { λ r. ⌜ Puts (now (out .entry)) (now (out .exit)) at r (three-numbers (now (opening .entry)) k m n) ⌝ }
-{
-    let first = put(out, at, opening);
-    let second = put_and(out, first, k, b" ");
-    put_two(out, second, b"", m, n)
 }
 
 // A gate with a power, a control and a target, in this order.
@@ -208,22 +198,6 @@ pub fn write_turned_away(number: u8, line: usize, out: &mut [u8]) -> usize
     put_two(out, 0, b"(turned-away ", number as usize, line)
 }
 
-// Writes the form `(turned-away r l t)` of a job over several texts at the front, and gives its length.
-pub fn write_text_turned_away(number: u8, line: usize, text: u8, out: &mut [u8]) -> usize
-    requires { ⌜ 64 ≤ length (now out) ⌝ }
-    ensures { λ r. ⌜ r ≡ length (text-turned-away number line text) ⌝ }
-    ensures { λ r. ⌜ now (out .exit) ≡ text-turned-away number line text ++ drop r (now (out .entry)) ⌝ }
-{
-    put_three(
-        out,
-        0,
-        b"(turned-away ",
-        number as usize,
-        line,
-        text as usize,
-    )
-}
-
 // Writes the form `(quote c)` at the front, and gives its length.
 pub fn write_quote(count: usize, out: &mut [u8]) -> usize
     requires { ⌜ 64 ≤ length (now out) ⌝ }
@@ -231,13 +205,4 @@ pub fn write_quote(count: usize, out: &mut [u8]) -> usize
     ensures { λ r. ⌜ now (out .exit) ≡ quote count ++ drop r (now (out .entry)) ⌝ }
 {
     put_one(out, 0, b"(quote ", count)
-}
-
-// Writes fixed bytes, as `(equal)` with its line end, at the front, and gives their number.
-pub fn write_word(bytes: &[u8], out: &mut [u8]) -> usize
-    requires { ⌜ length (now bytes) ≤ length (now out) ⌝ }
-    ensures { λ r. ⌜ r ≡ length (now (bytes .entry)) ⌝ }
-    ensures { λ r. ⌜ now (out .exit) ≡ now (bytes .entry) ++ drop r (now (out .entry)) ⌝ }
-{
-    put(out, 0, bytes)
 }

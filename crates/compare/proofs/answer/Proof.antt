@@ -8,14 +8,14 @@ use Rattle.compare.proofs.answer.Tie as tie
 compare-codes-requires : tie.Need-compare-codes-requires
 compare-codes-requires c κs = search needs
 
-write-text-turned-away-requires : tie.Need-write-text-turned-away-requires
-write-text-turned-away-requires c κs = search needs
+write-turned-away-requires : tie.Need-write-turned-away-requires
+write-turned-away-requires c κs = search needs
 
 returns : tie.Need-returns
 returns c =
     let d = c .before .before .before .before .before in
     let a = d .before .before .before .args in
-    let w = c .write-text-turned-away in
+    let w = c .write-turned-away in
     refusal-answers (now (a .first)) (now (a .second)) (d .compare-codes .result) (d .compare-codes .ensures) (c .before .before .if1 .taken) (record { number = w .ensures .0; bytes = w .ensures .1 })
 
 write-comparison-requires : tie.Need-write-comparison-requires
@@ -32,7 +32,7 @@ answer-spec =
     tie.close
     (tie.spec
     compare-codes-requires
-    write-text-turned-away-requires
+    write-turned-away-requires
     returns
     write-comparison-requires
     returns-2)

@@ -1,8 +1,8 @@
 -- `write_word` writes its bytes at the front. Assumes nothing.
 use borrow.Author.Needs.{needs}
 use Rattle.writing.proofs.Bytes.{at-front}
-use Rattle.writing.proofs.write_word.Statement.{statement}
-use Rattle.writing.proofs.write_word.Tie as tie
+use Rattle.forms.proofs.write_word.Statement.{statement}
+use Rattle.forms.proofs.write_word.Tie as tie
 
 put-requires : tie.Need-put-requires
 put-requires c κs = search needs

@@ -6,11 +6,12 @@ use native.Mathlib.Omega.{arith}
 use lib.ListN.{length-append}
 use borrow.Author.Needs.{needs}
 use Rattle.text.specs.Text.{bytes}
-use Rattle.writing.specs.Decimal.{decimal, two-numbers, three-numbers}
+use Rattle.writing.specs.Decimal.{decimal, two-numbers}
+use Rattle.forms.specs.Forms.{three-numbers}
 use Rattle.writing.proofs.Bytes.{both}
-use Rattle.writing.proofs.Lines.{length-three}
-use Rattle.writing.proofs.put_three.Statement.{statement}
-use Rattle.writing.proofs.put_three.Tie as tie
+use Rattle.forms.proofs.Lines.{length-three}
+use Rattle.forms.proofs.put_three.Statement.{statement}
+use Rattle.forms.proofs.put_three.Tie as tie
 
 put-requires : tie.Need-put-requires
 put-requires c κs =
