@@ -22,6 +22,8 @@ use Rattle.habits.specs.Demands.{One}
 use Rattle.jobs.specs.Jobs.{Job, Exit}
 use Rattle.jobs.specs.Handing.{exit-of, exit-of-two, Said, limit-of, Settles, Hands, HandsTwo}
 use Rattle.jobs.proofs.One.{says-one}
+use Rattle.comparison.specs.Compare.{Compare}
+use Rattle.comparison.proofs.One.{compare-one}
 use Rattle.capi.specs.Exported.{codes, not-0, numbers, three, four, front, written, stored, Tells, TellsTwo}
 
 -- ---- the number of `not 0`
@@ -123,3 +125,7 @@ module _ {Says : List Gate → List Gate → habits.Exit → Type 0} (l k : List
     where
       listed : ℕ → habits.Exit → List Gate
       listed i x = getD (x .lent .lists) i []
+
+-- so does compare's: the outcome and both lists
+pub compare-tells-one : (s l t k : List ℕ) {o l′ k′ p m n : List ℕ} → TellsTwo (λ l m x. Compare s l t m x) l k o l′ k′ → TellsTwo (λ l m x. Compare s l t m x) l k p m n → (o ≡ p) × (l′ ≡ m) × (k′ ≡ n)
+compare-tells-one s l t k = tells-two-one l k (compare-one s (gates l) t (gates k))
