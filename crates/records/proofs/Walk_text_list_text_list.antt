@@ -1,4 +1,4 @@
--- The walk of every job over a text and a gate list, twice, once:
+-- The walk of every job over two texts, each with its gate list, once:
 --     pub fn f(first: &[u8], first_list: &mut [Gate], second: &[u8], second_list: &mut [Gate]) -> TextOutcome {
 --         let d = g(first, first_list.len(), second, second_list.len());
 --         fill(first_list, d.first);
