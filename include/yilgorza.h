@@ -1,6 +1,6 @@
 /* Yilgorza for C: maps a cascade of multiple-control Toffoli gates to a list of
-   NCV gates, reduces such a list, quotes its gate count, and says whether two
-   such lists are one circuit.
+   NCV gates, or quotes its gate count alone, reduces such a list, and says whether
+   two such lists are one circuit.
 
    The functions are in the archive target/staticlib/libcapi.a, which
    `rt staticlib capi` proves and writes. `bin/shared-object ARCHIVE OUT` makes a
@@ -41,13 +41,14 @@ extern "C" {
 #define YILGORZA_LIST_RECORDS 4096
 #define YILGORZA_ANSWER_BYTES 45067
 
-/* The places of the outcome of a job over one text, an area of three numbers. */
+/* The places of the outcome of a job over one text, an area of four numbers. */
 enum {
     YILGORZA_NUMBER = 0, /* 0, or the number of the refusal */
     YILGORZA_LINE = 1,   /* the line of the text that is refused, counted from 1;
                             0 on success and with the numbers 1, 2 and 10 */
-    YILGORZA_COUNT = 2   /* on success the bytes written by map and reduce, and
-                            the gates counted by quote; else 0 */
+    YILGORZA_GATES = 2,  /* on success the gates of the reduced list; else 0 */
+    YILGORZA_BYTES = 3   /* on success the bytes written to the answer area, 0 if
+                            map only quotes; else 0 */
 };
 
 /* The places of the outcome of a job over several texts, an area of four
@@ -88,7 +89,8 @@ enum {
     YILGORZA_NO_SPARE = 8,     /* three or more controls, and n = k + 1 */
     YILGORZA_TOO_MANY = 9,     /* the 257th mct, an expansion past 4,096 gates with
                                   this line, or the 4,097th gate of a circuit */
-    YILGORZA_SHORT_ANSWER = 10 /* the answer text is longer than its area */
+    YILGORZA_SHORT_ANSWER = 10 /* the answer text is longer than its area; never
+                                  from map with an area of length 0 */
 };
 
 /* A record of the list is a gate as a number:
@@ -106,32 +108,33 @@ enum {
    None of the areas that are written overlaps another area. A text is only read. It
    may hold any bytes, and the areas may have any lengths. */
 
-/* The three jobs over one text. Each takes a text of text_len bytes, a list of
-   list_len records and an outcome of three numbers, and map and reduce an answer
-   area of answer_len bytes.
+/* The two jobs over one text. Each takes a text of text_len bytes, a list of
+   list_len records, an answer area of answer_len bytes and an outcome of four
+   numbers.
 
    On success the list holds first the reduced list, gate by gate, and `not 0` in
    every later record; the answer area holds that list as a circuit text at its
-   front, its other bytes unchanged. The gates of map and reduce are as many as the
-   answer text has lines, without line 1, and those of quote as many as it counts.
+   front, its other bytes unchanged. The outcome says how many gates that list has
+   and how many bytes that text; the text has one line more than there are gates.
 
    A refusal leaves the answer area unchanged. Numbers 1 and 2 leave the list
    unchanged, the others leave `not 0` in every record. So on success and with the
    numbers 3 to 10 all list_len records are written, those past 4,096 too. */
 
-/* Maps a cascade text to a circuit text. */
+/* Maps a cascade text to a circuit text.
+
+   With an answer area of length 0, whose pointer may be null, it only quotes: it
+   answers as with an area that is long enough, with the same gates and the same
+   list, but writes no text, and its bytes are 0. */
 void yilgorza_map(const uint8_t *text, size_t text_len, uint16_t *list,
                   size_t list_len, uint8_t *answer, size_t answer_len,
                   uint64_t *outcome);
 
-/* Reduces a circuit text. */
+/* Reduces a circuit text. For it an answer area of length 0 is too short: number
+   10. */
 void yilgorza_reduce(const uint8_t *text, size_t text_len, uint16_t *list,
                      size_t list_len, uint8_t *answer, size_t answer_len,
                      uint64_t *outcome);
-
-/* Quotes the gate count of a cascade text. */
-void yilgorza_quote(const uint8_t *text, size_t text_len, uint16_t *list,
-                    size_t list_len, uint64_t *outcome);
 
 /* The job over two texts: are they one circuit? Each is a circuit text with a list
    of its own, and the outcome has four numbers. The two texts may be one area.
@@ -145,7 +148,7 @@ void yilgorza_quote(const uint8_t *text, size_t text_len, uint16_t *list,
 
    On success each list holds first the reduced list of its own text, and `not 0` in
    every later record. How many gates it has is not returned, and its records do
-   not show it, as its last gate may be a `not 0` too: reduce tells it.
+   not show it, as its last gate may be a `not 0` too: reduce returns it.
 
    Of the numbers only 1, 2, 3, 4, 5 and 9 are given. Numbers 1 and 2, of either
    text, leave both lists unchanged, also that of a first text which had nothing

@@ -1,6 +1,7 @@
-/* Maps the Toffoli gate, and prints the answer, the gate list and the quote. Then
-   compares a circuit that was ordered with two drawings of it that came later, one
-   of them with a line that the circuit does not have. */
+/* Maps the Toffoli gate, and prints the number of gates, the answer and the gate
+   list, all from one call; and quotes the same gate written twice. Then compares a
+   circuit that was ordered with two drawings of it that came later, one of them with
+   a line that the circuit does not have. */
 
 #include <inttypes.h>
 #include <stdio.h>
@@ -8,7 +9,8 @@
 
 #include "yilgorza.h"
 
-static const char text[] = "(lines 3)\n(mct (0 1) 2)\n";
+static const char once[] = "(lines 3)\n(mct (0 1) 2)\n";
+static const char twice[] = "(lines 3)\n(mct (0 1) 2)\n(mct (0 1) 2)\n";
 
 static const char ordered[] = "(lines 3)\n(v 1 2)\n(v 1 2)\n";
 static const char redrawn[] = "(lines 3)\n(cn 0 2)\n(cn 1 2)\n(cn 0 2)\n";
@@ -40,6 +42,19 @@ static int accepted(const uint64_t *outcome) {
     return 0;
 }
 
+/* Maps a cascade text, with an answer area of this length, and prints how many gates
+   and bytes there are, and the bytes. */
+static int map(const char *text, size_t answer_len, uint64_t *outcome) {
+    yilgorza_map((const uint8_t *)text, strlen(text), list, YILGORZA_LIST_RECORDS,
+                 answer, answer_len, outcome);
+    if (!accepted(outcome))
+        return 0;
+    printf("map: %" PRIu64 " gates, %" PRIu64 " bytes\n", outcome[YILGORZA_GATES],
+           outcome[YILGORZA_BYTES]);
+    fwrite(answer, 1, outcome[YILGORZA_BYTES], stdout);
+    return 1;
+}
+
 /* Compares two circuit texts, and prints what is found, or which is turned away. */
 static void compare(const char *first, const char *second) {
     uint64_t outcome[4];
@@ -56,22 +71,15 @@ static void compare(const char *first, const char *second) {
 }
 
 int main(void) {
-    const uint8_t *bytes = (const uint8_t *)text;
-    size_t length = strlen(text);
-    uint64_t outcome[3];
+    uint64_t outcome[4];
 
-    yilgorza_map(bytes, length, list, YILGORZA_LIST_RECORDS, answer,
-                 YILGORZA_ANSWER_BYTES, outcome);
-    if (!accepted(outcome))
+    if (!map(once, YILGORZA_ANSWER_BYTES, outcome))
         return 1;
-    printf("%.*s\n", (int)outcome[YILGORZA_COUNT], (const char *)answer);
-
-    yilgorza_quote(bytes, length, list, YILGORZA_LIST_RECORDS, outcome);
-    if (!accepted(outcome))
-        return 1;
-    for (uint64_t i = 0; i < outcome[YILGORZA_COUNT]; i++)
+    for (uint64_t i = 0; i < outcome[YILGORZA_GATES]; i++)
         print_gate(list[i]);
-    printf("\nquote %" PRIu64 "\n\n", outcome[YILGORZA_COUNT]);
+    /* An answer area of length 0 asks for the quote only; its pointer may be null. */
+    if (!map(twice, 0, outcome))
+        return 1;
 
     compare(ordered, redrawn);
     print_gate(list[0]);

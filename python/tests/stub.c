@@ -1,6 +1,6 @@
 /* Functions that answer what the library never does: to an empty text a circuit
    of one gate whose number is no gate's, and compare a count of 3; to any other the
-   refusal 11. */
+   refusal 11, but map and reduce to one of two bytes no gates with the text of one. */
 
 #include <stddef.h>
 #include <stdint.h>
@@ -8,32 +8,23 @@
 
 static const char circuit[] = "(lines 1)\n(not 0)\n";
 
-static void answer_nonsense(size_t text_len, uint16_t *list, uint64_t *outcome,
-                            uint64_t count) {
-    list[0] = 65535;
-    outcome[0] = text_len == 0 ? 0 : 11;
-    outcome[1] = 0;
-    outcome[2] = text_len == 0 ? count : 0;
-}
-
 void yilgorza_map(const uint8_t *text, size_t text_len, uint16_t *list,
                   size_t list_len, uint8_t *answer, size_t answer_len,
                   uint64_t *outcome) {
-    (void)text, (void)list_len, (void)answer_len;
-    memcpy(answer, circuit, strlen(circuit));
-    answer_nonsense(text_len, list, outcome, strlen(circuit));
+    size_t written = answer_len ? strlen(circuit) : 0;
+    (void)text, (void)list_len;
+    memcpy(answer, circuit, written);
+    list[0] = 65535;
+    outcome[0] = text_len == 0 || text_len == 2 ? 0 : 11;
+    outcome[1] = 0;
+    outcome[2] = text_len == 0 ? 1 : 0;
+    outcome[3] = outcome[0] ? 0 : written;
 }
 
 void yilgorza_reduce(const uint8_t *text, size_t text_len, uint16_t *list,
                      size_t list_len, uint8_t *answer, size_t answer_len,
                      uint64_t *outcome) {
     yilgorza_map(text, text_len, list, list_len, answer, answer_len, outcome);
-}
-
-void yilgorza_quote(const uint8_t *text, size_t text_len, uint16_t *list,
-                    size_t list_len, uint64_t *outcome) {
-    (void)text, (void)list_len;
-    answer_nonsense(text_len, list, outcome, 1);
 }
 
 void yilgorza_compare(const uint8_t *first, size_t first_len,

@@ -52,6 +52,7 @@ class Module(unittest.TestCase):
             with self.subTest(text):
                 quote = yilgorza.quote(text)
                 self.assertEqual((quote.count, len(quote.gates)), (count, count))
+                self.assertEqual(yilgorza.map(text).gates, quote.gates)
 
     def test_reductions(self):
         for text, reduced in REDUCTIONS:

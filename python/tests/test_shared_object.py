@@ -86,6 +86,11 @@ class Named(unittest.TestCase):
                     self.error(self.made, b"x", job),
                     "InternalError yilgorza: there is no refusal 11\n",
                 )
+        for job in ("map", "reduce"):
+            self.assertEqual(
+                self.error(self.made, b"xx", job),
+                "InternalError yilgorza: the answer has not 0 gates\n",
+            )
 
 
 if __name__ == "__main__":

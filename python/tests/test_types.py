@@ -216,7 +216,6 @@ class Names(unittest.TestCase):
         typing.get_type_hints(yilgorza.Quote)
         typing.get_type_hints(TurnedAway.__init__)
         typing.get_type_hints(_library.run)
-        typing.get_type_hints(_library.run_several)
 
     def test_all_functions_are_annotated(self):
         paths = sorted((REPOSITORY / "python/src/yilgorza").glob("*.py"))

@@ -1,16 +1,18 @@
 /* The harness of the fuzzer (libFuzzer with AddressSanitizer) on the static
    library: each input is given to the jobs, over one text and over two, on lent
    areas of sizes that the input chooses, and what holds of every answer is
-   checked. What reduce gives for either of two texts says all that compare has to
-   give for both.
+   checked. Map is also called with an empty answer area, and has to count the same
+   gates and give the same list. What reduce gives for either of two texts says all
+   that compare has to give for both.
 
    Memory. The archive is plain machine code, in which AddressSanitizer checks
    nothing but the memory functions of the C library. So the areas stand
    directly before or directly after a page without access: one byte read or
    written beyond that end of an area stops the run. A few watched bytes stand
-   at the other end. Compiled with REPLAY, the same harness has a main function
-   that runs the files named on the command line, with malloc'ed areas of the
-   exact sizes, for valgrind, which checks machine code instruction by
+   at the other end. An empty answer area always stands before its page: its
+   pointer is that of the page. Compiled with REPLAY, the same harness has a main
+   function that runs the files named on the command line, with malloc'ed areas of
+   the exact sizes, for valgrind, which checks machine code instruction by
    instruction.
 
    Guidance. No coverage is compiled into the archive. What guides the fuzzer is
@@ -21,8 +23,8 @@
      input that reaches it, and the code runs at full speed afterwards. The
      addresses of the blocks come from a disassembly (see blocks.awk), in the
      file that the environment variable FUZZ_BLOCKS names.
-   - the outcomes: number, line and count (its number of binary digits) of each
-     job, for each text of compare.
+   - the outcomes: number and line, and gates or count (its number of binary
+     digits), of each kind of call, for each text of compare.
    The harness itself is compiled without coverage.
 
    An input is four bytes of choices, a text and perhaps a second text. The first
@@ -47,13 +49,13 @@
 #include <unistd.h>
 
 enum { LONGEST_TEXT = 60000, SHORTEST_LIST = 4096, AMPLE = 50000, BESIDE = 64 };
-enum job { MAP, REDUCE, QUOTE };   /* over one text */
-enum { COMPARE = QUOTE + 1 };      /* over two */
-static const char *const job_names[] = { "map", "reduce", "quote", "compare" };
+/* The kinds of call: the jobs, and map with an empty answer area apart. */
+enum call { MAP, REDUCE, MAP_EMPTY_AREA, COMPARE };
+static const char *const call_names[] = { "map", "reduce", "map with an empty area", "compare" };
 
-static void fail(unsigned job, const char *what)
+static void fail(enum call call, const char *what)
 {
-    fprintf(stderr, "fuzz: FAILED: %s: %s\n", job_names[job], what);
+    fprintf(stderr, "fuzz: FAILED: %s: %s\n", call_names[call], what);
     abort();
 }
 
@@ -67,12 +69,12 @@ __attribute__((section("__libfuzzer_extra_counters")))
 static volatile uint8_t counters[MOST_BLOCKS + OUTCOMES];
 
 /* The refusals of a job over several texts are counted for each text. */
-static void count_outcome(unsigned job, uint64_t number, uint64_t line, uint64_t text, uint64_t count)
+static void count_outcome(enum call call, uint64_t number, uint64_t line, uint64_t text, uint64_t count)
 {
     unsigned short_line = line < 24 ? (unsigned)line : 24;
     unsigned digits = count ? 64 - (unsigned)__builtin_clzll(count) : 0;
     unsigned feature = number ? 64 + (unsigned)number * 25 + short_line : digits;
-    counters[MOST_BLOCKS + (job + (text == 2)) * 512 + feature % 512] = 1;
+    counters[MOST_BLOCKS + (call + (text == 2)) * 512 + feature % 512] = 1;
 }
 
 #ifndef REPLAY
@@ -235,8 +237,7 @@ static int beside_unchanged(const struct area *area, uint8_t junk)
 /* ---- What holds of every answer ---- */
 
 struct answer {
-    uint64_t number, line, count;
-    size_t gates;
+    uint64_t number, line, gates, bytes;
     uint16_t list[SHORTEST_LIST];
     uint8_t text[AMPLE];
 };
@@ -256,39 +257,47 @@ static size_t put_word(uint8_t *text, const char *word)
     return strlen(word);
 }
 
-/* Checks that the text of the answer is that of the records, in form, and
-   gives the number of gates. */
-static size_t check_text(enum job job, unsigned lines, const uint16_t *list, const uint8_t *text, size_t length)
+/* Line 1 of an answer text. */
+static size_t put_lines(uint8_t *line, unsigned lines)
+{
+    size_t end = put_word(line, "(lines ");
+    end += put_number(line + end, lines);
+    return end + put_word(line + end, ")\n");
+}
+
+/* The line of a record, which has to be a gate on so many lines. */
+static size_t put_gate(enum call call, uint8_t *line, unsigned lines, uint16_t record)
 {
     static const char *const words[] = { "", "(v ", "(cn ", "(vp " };
-    uint8_t line[32];
-    size_t gates = 0, place = 0;
-    for (;;) {
-        size_t end = 0;
-        if (place == 0) {
-            end = put_word(line, "(lines ");
-            end += put_number(line + end, lines);
-        } else {
-            unsigned power = list[gates] % 4, slot = list[gates] / 4 % 33, target = list[gates] / 132;
-            if (power == 0 || target >= lines || slot > lines || slot == target + 1 || (slot == 0 && power != 2))
-                fail(job, "a record is no gate");
-            end = put_word(line, slot ? words[power] : "(not ");
-            if (slot) {
-                end += put_number(line + end, slot - 1);
-                line[end++] = ' ';
-            }
-            end += put_number(line + end, target);
-            gates++;
-        }
-        end += put_word(line + end, ")\n");
-        if (length - place < end || memcmp(text + place, line, end))
-            fail(job, "the answer text isn't that of the list");
-        place += end;
-        if (place == length)
-            return gates;
-        if (gates == SHORTEST_LIST)
-            fail(job, "more lines than gates");
+    unsigned power = record % 4, slot = record / 4 % 33, target = record / 132;
+    if (power == 0 || target >= lines || slot > lines || slot == target + 1 || (slot == 0 && power != 2))
+        fail(call, "a record is no gate");
+    size_t end = put_word(line, slot ? words[power] : "(not ");
+    if (slot) {
+        end += put_number(line + end, slot - 1);
+        line[end++] = ' ';
     }
+    end += put_number(line + end, target);
+    return end + put_word(line + end, ")\n");
+}
+
+/* Checks that as many records as gates are counted are gates, and that the text,
+   where one is written, is theirs to its last byte. */
+static void check_gates(enum call call, unsigned lines, const uint16_t *list, uint64_t gates, const uint8_t *text,
+                        uint64_t bytes)
+{
+    uint8_t line[32];
+    uint64_t place = 0;
+    for (uint64_t i = 0; i <= gates; i++) {
+        size_t end = i ? put_gate(call, line, lines, list[i - 1]) : put_lines(line, lines);
+        if (!bytes)
+            continue;
+        if (bytes - place < end || memcmp(text + place, line, end))
+            fail(call, "the answer text isn't that of the list");
+        place += end;
+    }
+    if (place != bytes)
+        fail(call, "more bytes than those of the gates");
 }
 
 /* The n of an accepted text. */
@@ -300,74 +309,69 @@ static unsigned lines_of(const uint8_t *text)
     return lines;
 }
 
-static void run(enum job job, const uint8_t *text, size_t text_length, size_t list_length, size_t answer_length,
+/* Checks what holds of the four numbers whatever the texts say. */
+static void check_outcome(enum call call, const struct answer *given, size_t text_length, size_t list_length,
+                          size_t answer_length)
+{
+    uint64_t number = given->number;
+    if (number > 10 || (call == MAP_EMPTY_AREA && number == 10) || (call == REDUCE && number >= 6 && number <= 8))
+        fail(call, "no such number");
+    if ((text_length > LONGEST_TEXT) != (number == 1))
+        fail(call, "rule 1");
+    if ((text_length <= LONGEST_TEXT && list_length < SHORTEST_LIST) != (number == 2))
+        fail(call, "rule 2");
+    if ((number >= 3 && number <= 9) != (given->line > 0) || given->line > text_length + 1)
+        fail(call, "the line");
+    if (number && (given->gates || given->bytes))
+        fail(call, "the gates or bytes of a refusal");
+    if (given->gates > SHORTEST_LIST)
+        fail(call, "the gates are past the list");
+    if (given->bytes > answer_length || (number == 0 && (given->bytes == 0) != (call == MAP_EMPTY_AREA)))
+        fail(call, "the bytes");
+}
+
+/* Runs map or reduce. */
+static void run(enum call job, const uint8_t *text, size_t text_length, size_t list_length, size_t answer_length,
                 int at_front, uint8_t junk, struct answer *result)
 {
     struct area text_area, list_area, answer_area;
-    uint64_t outcome[5] = { 99, 99, 99, 99, 99 };
-    uint16_t junk_record = (uint16_t)(junk << 8 | junk);
+    enum call call = job == MAP && !answer_length ? MAP_EMPTY_AREA : job;
+    uint64_t outcome[6] = { 99, 99, 99, 99, 99, 99 };
     lend(&text_area, text_length, at_front, junk);
     lend(&list_area, list_length * sizeof(uint16_t), at_front, junk);
-    lend(&answer_area, answer_length, at_front, junk);
+    lend(&answer_area, answer_length, at_front && answer_length, junk);
     if (text_length)
         memcpy(text_area.bytes, text, text_length);
     uint16_t *list = (uint16_t *)list_area.bytes;
     uint8_t *answer = answer_area.bytes;
-    switch (job) {
-    case MAP:
-        yilgorza_map(text_area.bytes, text_length, list, list_length, answer, answer_length, outcome + 1);
-        break;
-    case REDUCE:
-        yilgorza_reduce(text_area.bytes, text_length, list, list_length, answer, answer_length, outcome + 1);
-        break;
-    case QUOTE:
-        yilgorza_quote(text_area.bytes, text_length, list, list_length, outcome + 1);
-        break;
-    }
-    uint64_t number = outcome[1], line = outcome[2], written = outcome[3];
-    if (outcome[0] != 99 || outcome[4] != 99)
-        fail(job, "a word beside the outcome was written");
-    if (number > 10 || (job == QUOTE && number == 10) || (job == REDUCE && number >= 6 && number <= 8))
-        fail(job, "no such number");
-    if ((text_length > LONGEST_TEXT) != (number == 1))
-        fail(job, "rule 1");
-    if ((text_length <= LONGEST_TEXT && list_length < SHORTEST_LIST) != (number == 2))
-        fail(job, "rule 2");
-    if ((number >= 3 && number <= 9) != (line > 0) || line > text_length + 1)
-        fail(job, "the line");
-    if (number && written)
-        fail(job, "the count of a refusal");
-    size_t gates = 0;
-    if (number == 0 && job != QUOTE) {
-        if (written > answer_length)
-            fail(job, "the count is past the area");
-        gates = check_text(job, lines_of(text), list, answer, written);
-    } else if (number == 0) {
-        if (written > SHORTEST_LIST || written > list_length)
-            fail(job, "the count is past the list");
-        gates = written;
-    }
-    if (!all_records(list + gates, list_length - gates, number == 1 || number == 2 ? junk_record : YILGORZA_NOT_0))
-        fail(job, "the records after the list");
-    size_t in_area = job == QUOTE ? 0 : written;
-    if (!all_bytes(answer + in_area, answer_length - in_area, junk))
-        fail(job, "the bytes after the answer");
+    (job == MAP ? yilgorza_map : yilgorza_reduce)(text_area.bytes, text_length, list, list_length, answer,
+                                                  answer_length, outcome + 1);
+    if (outcome[0] != 99 || outcome[5] != 99)
+        fail(call, "a word beside the outcome was written");
+    result->number = outcome[1];
+    result->line = outcome[2];
+    result->gates = outcome[3];
+    result->bytes = outcome[4];
+    check_outcome(call, result, text_length, list_length, answer_length);
+    uint64_t number = result->number, gates = result->gates, bytes = result->bytes;
+    if (number == 0)
+        check_gates(call, lines_of(text), list, gates, answer, bytes);
+    uint16_t rest = number == 1 || number == 2 ? (uint16_t)(junk << 8 | junk) : YILGORZA_NOT_0;
+    if (!all_records(list + gates, list_length - gates, rest))
+        fail(call, "the records after the list");
+    if (!all_bytes(answer + bytes, answer_length - bytes, junk))
+        fail(call, "the bytes after the answer");
     if (text_length && memcmp(text_area.bytes, text, text_length))
-        fail(job, "the text was changed");
+        fail(call, "the text was changed");
     if (!beside_unchanged(&text_area, junk) || !beside_unchanged(&list_area, junk)
         || !beside_unchanged(&answer_area, junk))
-        fail(job, "bytes beside an area were written");
-    result->number = number;
-    result->line = line;
-    result->count = written;
-    result->gates = gates;
+        fail(call, "bytes beside an area were written");
     memcpy(result->list, list, gates * sizeof(uint16_t));
-    if (number == 0 && job != QUOTE)
-        memcpy(result->text, answer, written);
+    memcpy(result->text, answer, bytes);
     take_back(&answer_area);
     take_back(&list_area);
     take_back(&text_area);
-    count_outcome(job, number, line, 0, written);
+    count_outcome(call, number, result->line, 0, gates);
 }
 
 static int same_list(const struct answer *a, const struct answer *b)
@@ -517,36 +521,40 @@ static const uint8_t *text_of(uint8_t *text, const uint8_t *data, size_t *length
 static void jobs_over_one_text(const uint8_t *choices, const uint8_t *text, size_t length, size_t list_length,
                                int at_front, uint8_t junk)
 {
-    static struct answer answers[3], again;
-    for (enum job job = MAP; job <= QUOTE; job++) {
-        size_t answer_length = job == QUOTE ? 0 : (choices[1] & 3) == 3 ? choices[2] : AMPLE;
+    static struct answer answers[2], empty, again;
+    const struct answer *mapped = &answers[MAP];
+    for (enum call job = MAP; job <= REDUCE; job++) {
+        size_t answer_length = (choices[1] & 3) == 3 ? choices[2] : AMPLE;
         run(job, text, length, list_length, answer_length, at_front, junk, &answers[job]);
-        if (answers[job].number || job == QUOTE)
+        size_t written = answers[job].bytes;
+        if (!written)
             continue;
-        /* Again with the answer area fitting exactly or one short. */
-        size_t written = answers[job].count;
+        /* Again with the answer area fitting exactly; or one short, and the
+           shortest that is refused, which for reduce is empty. */
         if ((choices[1] & 3) == 1) {
             run(job, text, length, list_length, written, at_front, junk, &again);
-            if (again.number || again.count != written || !same_list(&again, &answers[job]))
+            if (again.number || again.bytes != written || !same_list(&again, &answers[job]))
                 fail(job, "an answer area that fits");
         } else if ((choices[1] & 3) == 2) {
-            run(job, text, length, list_length, written - 1, at_front, junk, &again);
-            if (again.number != 10)
-                fail(job, "an answer area one short");
+            size_t shorter[] = { written - 1, job == MAP ? 1 : 0 };
+            for (int i = 0; i < 2; i++) {
+                run(job, text, length, list_length, shorter[i], at_front, junk, &again);
+                if (again.number != 10)
+                    fail(job, "an answer area that is short");
+            }
         }
         /* What is reduced stays as it is. */
         run(REDUCE, answers[job].text, written, list_length, AMPLE, at_front, junk, &again);
-        if (again.number || again.count != written || !same_list(&again, &answers[job])
+        if (again.number || again.bytes != written || !same_list(&again, &answers[job])
             || memcmp(again.text, answers[job].text, written))
             fail(job, "the answer isn't its own reduced list");
     }
-    /* Map and quote refuse the same and give the same list. */
-    if (answers[MAP].number == 10 ? answers[QUOTE].number != 0
-                                  : answers[MAP].number != answers[QUOTE].number
-                || answers[MAP].line != answers[QUOTE].line)
-        fail(QUOTE, "map refuses otherwise");
-    if (answers[MAP].number == 0 && !same_list(&answers[MAP], &answers[QUOTE]))
-        fail(QUOTE, "map gives another list");
+    /* With an empty area map refuses the same, but for 10, and gives the same list. */
+    run(MAP, text, length, list_length, 0, at_front, junk, &empty);
+    if (mapped->number == 10 ? empty.number != 0 : mapped->number != empty.number || mapped->line != empty.line)
+        fail(MAP_EMPTY_AREA, "with an area it refuses otherwise");
+    if (mapped->number == 0 && !same_list(mapped, &empty))
+        fail(MAP_EMPTY_AREA, "with an area it gives another list");
 }
 
 /* Two texts in both orders, and each with itself. */

@@ -6,7 +6,8 @@
 
 #include "texts.h"
 
-enum { RECORDS = 5000 };
+/* The records lent: just enough, and more. */
+enum { ENOUGH = YILGORZA_LIST_RECORDS, RECORDS = 5000 };
 
 static const uint16_t paint = 0xfffe;
 
@@ -49,6 +50,18 @@ static void paint_list(uint16_t *whole) {
         whole[i] = paint;
 }
 
+/* The part of the answer area that is lent. */
+struct room {
+    uint8_t *start;
+    size_t length;
+};
+
+/* Its last bytes; none has no address. */
+static struct room last_bytes(size_t length) {
+    struct room r = {length ? answer + YILGORZA_ANSWER_BYTES - length : NULL, length};
+    return r;
+}
+
 /* Whether the records lent hold so many gates and then `not 0`, or, with the refusals
    1 and 2, are as painted; and all others are as painted. */
 static int holds(const uint16_t *whole, size_t records, uint64_t number, size_t gates) {
@@ -65,44 +78,45 @@ static int holds(const uint16_t *whole, size_t records, uint64_t number, size_t 
     return 1;
 }
 
-/* Paints what is lent, does the job, and looks at all of it: whether the outcome is
-   this one, the list holds what it is to hold, and every byte of the answer is as
-   painted after the bytes counted. */
-static int lent(enum job job, const uint8_t *bytes, size_t length, size_t records,
-                size_t room, uint64_t number, uint64_t line) {
-    uint64_t count;
-    size_t gates = 0, i;
-    paint_list(list);
-    memset(answer, 0xfe, YILGORZA_ANSWER_BYTES);
-    memset(outcome, 0xfe, 3 * sizeof *outcome);
-    do_job(job, bytes, length, last(list, records), records,
-           room ? answer + YILGORZA_ANSWER_BYTES - room : NULL, room, outcome);
-    count = outcome[YILGORZA_COUNT];
-    if (outcome[YILGORZA_NUMBER] != number || outcome[YILGORZA_LINE] != line ||
-        (number != 0 && count != 0))
-        return 0;
-    if (number == 0 && job == QUOTE)
-        gates = count;
-    if (job == QUOTE)
-        count = 0;
-    for (i = 0; i < count; i++)
-        gates += answer[YILGORZA_ANSWER_BYTES - room + i] == '\n';
-    if (count)
-        gates--;
-    for (i = 0; i < YILGORZA_ANSWER_BYTES; i++)
-        if ((i < YILGORZA_ANSWER_BYTES - room ||
-             i >= YILGORZA_ANSWER_BYTES - room + count) &&
-            answer[i] != 0xfe)
+/* Whether these bytes and no others of the answer area are written, and have so many
+   lines. */
+static int shows(struct room written, size_t lines) {
+    for (uint8_t *byte = answer; byte < answer + YILGORZA_ANSWER_BYTES; byte++) {
+        int within = written.length && byte >= written.start &&
+                     byte < written.start + written.length;
+        if (within == (*byte == 0xfe))
             return 0;
-    return holds(list, records, number, gates);
+        lines -= *byte == '\n';
+    }
+    return lines == 0;
 }
 
-/* A text that is compared, the records lent to it, and the gates that it is to have
-   in them. */
+/* A text, the records lent to it, and the gates that it is to have in them. */
 struct side {
     const uint8_t *bytes;
     size_t length, records, gates;
 };
+
+/* Paints what is lent, does the job, and looks at all of it: whether the outcome is
+   this one, the list holds what it is to hold, and the answer area has the text, or
+   nothing where none is written. */
+static int lent(enum job job, struct side s, struct room room, uint64_t number,
+                uint64_t line) {
+    size_t gates = number ? 0 : s.gates;
+    int writes = number == 0 && job != QUOTE && room.length != 0;
+    struct room written = {room.start, 0};
+    paint_list(list);
+    memset(answer, 0xfe, YILGORZA_ANSWER_BYTES);
+    memset(outcome, 0xfe, 4 * sizeof *outcome);
+    do_job(job, s.bytes, s.length, last(list, s.records), s.records, room.start,
+           room.length, outcome);
+    written.length = outcome[YILGORZA_BYTES];
+    return outcome[YILGORZA_NUMBER] == number && outcome[YILGORZA_LINE] == line &&
+           outcome[YILGORZA_GATES] == gates &&
+           written.length <= (writes ? room.length : 0) &&
+           shows(written, writes ? gates + 1 : 0) &&
+           holds(list, s.records, number, gates);
+}
 
 /* The same of compare: whether the outcome is this one, and both lists hold what they
    are to hold. */
@@ -124,42 +138,76 @@ static int lent_two(struct side first, struct side second, uint64_t number,
 
 static void test_jobs(const uint8_t *const *bytes) {
     static const uint8_t one[] = "(lines 1)\n";
+    const struct side good = {one, 10, ENOUGH, 0}, empty = {NULL, 0, ENOUGH, 0},
+                      bare = {one, 10, 0, 0}, none = {NULL, 0, 0, 0},
+                      shorter = {one, 10, ENOUGH - 1, 0};
+    const struct room whole = last_bytes(YILGORZA_ANSWER_BYTES);
     char name[120];
     int job, i;
 
     for (job = 0; job < JOBS; job++)
         for (i = 0; i < TEXTS; i++) {
-            const struct text *t = &texts[i];
-            const uint64_t *e = expected(job, t);
-            int good = lent(job, bytes[i], t->length, YILGORZA_LIST_RECORDS,
-                            YILGORZA_ANSWER_BYTES, e[0], e[1]) &&
-                       lent(job, bytes[i], t->length, RECORDS, YILGORZA_ANSWER_BYTES,
-                            e[0], e[1]);
+            struct side s = {bytes[i], texts[i].length, ENOUGH, texts[i].gates};
+            struct side longer = {s.bytes, s.length, RECORDS, s.gates};
+            uint64_t e[3];
+            expected(job, &texts[i], e);
             snprintf(name, sizeof name, "%s of %s, with 4,096 and 5,000 records",
-                     job_names[job], t->name);
-            verdict(good, name);
+                     job_names[job], texts[i].name);
+            verdict(lent(job, s, whole, e[0], e[1]) &&
+                        lent(job, longer, whole, e[0], e[1]),
+                    name);
         }
 
     for (job = 0; job < JOBS; job++) {
-        int writes = job != QUOTE;
+        int short_answer = job == QUOTE ? 0 : 10;
         snprintf(name, sizeof name, "%s with pointers that are null and lengths of 0",
                  job_names[job]);
-        verdict(lent(job, NULL, 0, YILGORZA_LIST_RECORDS, YILGORZA_ANSWER_BYTES, 3, 1) &&
-                    lent(job, one, 10, 0, YILGORZA_ANSWER_BYTES, 2, 0) &&
-                    lent(job, one, 10, YILGORZA_LIST_RECORDS, 0, writes ? 10 : 0, 0) &&
-                    lent(job, NULL, 0, 0, 0, 2, 0),
+        verdict(lent(job, empty, whole, 3, 1) && lent(job, bare, whole, 2, 0) &&
+                    lent(job, good, last_bytes(0), job == REDUCE ? 10 : 0, 0) &&
+                    lent(job, none, last_bytes(0), 2, 0),
                 name);
-        snprintf(name, sizeof name, "%s with an area too short by one, and just long enough",
+        snprintf(name, sizeof name,
+                 "%s with an area of one byte, too short by one, and just long enough",
                  job_names[job]);
-        verdict(lent(job, one, 10, YILGORZA_LIST_RECORDS, 9, writes ? 10 : 0, 0) &&
-                    lent(job, one, 10, YILGORZA_LIST_RECORDS, 10, 0, 0) &&
-                    lent(job, one, 10, YILGORZA_LIST_RECORDS - 1, 10, 2, 0),
+        verdict(lent(job, good, last_bytes(1), short_answer, 0) &&
+                    lent(job, good, last_bytes(9), short_answer, 0) &&
+                    lent(job, good, last_bytes(10), 0, 0) &&
+                    lent(job, shorter, last_bytes(10), 2, 0),
                 name);
     }
 }
 
+/* With an answer area of length 0, at no address, at the start, in the middle and at
+   the end of what is painted: map gives the gates and leaves the list that it gives and
+   leaves with an area that is long enough, and reduce refuses what it would accept. */
+static void test_empty_areas(const uint8_t *const *bytes) {
+    static uint16_t left[RECORDS];
+    const struct room whole = last_bytes(YILGORZA_ANSWER_BYTES);
+    const struct room rooms[] = {{NULL, 0},
+                                 {answer, 0},
+                                 {answer + YILGORZA_ANSWER_BYTES / 2, 0},
+                                 {answer + YILGORZA_ANSWER_BYTES, 0}};
+    char name[120];
+
+    for (int i = 0; i < TEXTS; i++) {
+        struct side s = {bytes[i], texts[i].length, RECORDS, texts[i].gates};
+        uint64_t mapped[3], reduced[3];
+        int good;
+        expected(MAP, &texts[i], mapped);
+        expected(REDUCE, &texts[i], reduced);
+        good = lent(MAP, s, whole, mapped[0], mapped[1]);
+        memcpy(left, list, sizeof left);
+        for (int r = 0; r < 4; r++)
+            good &= lent(MAP, s, rooms[r], mapped[0], mapped[1]) &&
+                    memcmp(left, list, sizeof left) == 0 &&
+                    lent(REDUCE, s, rooms[r], reduced[0] ? reduced[0] : 10, reduced[1]);
+        snprintf(name, sizeof name, "%s, with an answer area of length 0",
+                 texts[i].name);
+        verdict(good, name);
+    }
+}
+
 static void test_compare(const uint8_t *const *bytes) {
-    enum { ENOUGH = YILGORZA_LIST_RECORDS };
     static const uint8_t long_text[YILGORZA_TEXT_BYTES + 1] = "(";
     const struct side none = {NULL, 0, 0, 0}, empty = {NULL, 0, ENOUGH, 0},
                       overlong = {long_text, sizeof long_text, ENOUGH, 0};
@@ -215,12 +263,13 @@ int main(void) {
     list = area(RECORDS * sizeof *list);
     second_list = area(RECORDS * sizeof *second_list);
     answer = area(YILGORZA_ANSWER_BYTES);
-    outcome = area(3 * sizeof *outcome);
+    outcome = area(4 * sizeof *outcome);
     several = area(4 * sizeof *several);
     make_texts();
     for (int i = 0; i < TEXTS; i++)
         bytes[i] = fixed(&texts[i]);
     test_jobs(bytes);
+    test_empty_areas(bytes);
     test_compare(bytes);
     return counts();
 }

@@ -16,7 +16,7 @@ enum { STATED = 64 * 1024, STACK = 2 * STATED };
 /* The functions: the jobs over one text, and these. */
 enum { COMPARE = JOBS, GATE, FUNCTIONS };
 
-static const char *const names[] = {"map", "reduce", "quote", "compare", "gate"};
+static const char *const names[] = {"map", "reduce", "quote only", "compare", "gate"};
 
 static uint16_t list[YILGORZA_LIST_RECORDS], second_list[YILGORZA_LIST_RECORDS];
 static uint8_t answer[YILGORZA_ANSWER_BYTES];
@@ -74,11 +74,13 @@ static size_t larger(size_t a, size_t b) { return a > b ? a : b; }
 static size_t most_of_job(void) {
     size_t most = 0;
     for (int i = 0; i < TEXTS; i++) {
+        uint64_t numbers[3];
         read_text = &texts[i];
         list_len = YILGORZA_LIST_RECORDS;
         answer_len = YILGORZA_ANSWER_BYTES;
         most = larger(most, used());
-        if (memcmp(outcome, expected(function, read_text), 2 * sizeof *outcome)) {
+        expected(function, read_text, numbers);
+        if (memcmp(outcome, numbers, sizeof numbers)) {
             verdict(0, read_text->name);
             return 0;
         }

@@ -11,8 +11,8 @@
 #include "yilgorza.h"
 
 /* A text, and the number and the line with which each job over one text answers it.
-   A circuit that is accepted also has its place in the order of compare, the same
-   for two that are one circuit, and the number of gates of its reduced list. */
+   One that is accepted also has the number of gates of its reduced list, and a
+   circuit its place in the order of compare, the same for two that are one circuit. */
 struct text {
     const char *name;
     uint8_t bytes[YILGORZA_TEXT_BYTES + 1];
@@ -22,7 +22,7 @@ struct text {
     size_t gates;
 };
 
-enum { TEXTS = 22 };
+enum { TEXTS = 25 };
 static struct text texts[TEXTS];
 
 static void add(struct text *t, const char *words) {
@@ -46,6 +46,12 @@ static struct text *text(int i, const char *name, int mapped, int mapped_line,
     return t;
 }
 
+static struct text *cascade(int i, const char *name, size_t gates) {
+    struct text *t = text(i, name, 0, 0, 3, 2);
+    t->gates = gates;
+    return t;
+}
+
 static struct text *circuit(int i, const char *name, int place, size_t gates) {
     struct text *t = text(i, name, 3, 2, 0, 0);
     t->place = place;
@@ -53,13 +59,15 @@ static struct text *circuit(int i, const char *name, int place, size_t gates) {
     return t;
 }
 
-/* The longest work of each job, every refusal of a text, and circuits to compare. */
+/* The longest work of each job, every refusal of a text, circuits to compare, and
+   document 01's cascades with their quotes. */
 static void make_texts(void) {
     static const char wide[] = "(mct (0 1 2 3 4 5 6 7 8 9 10 11 12 13 14) 15)\n";
     struct text *t;
     int i;
 
-    t = text(0, "eleven gates of 15 controls", 0, 0, 3, 2);
+    /* So many gates are quoted by tests/peer. */
+    t = cascade(0, "eleven gates of 15 controls", 3476);
     add(t, "(lines 17)\n");
     for (i = 0; i < 11; i++)
         add(t, wide);
@@ -118,27 +126,35 @@ static void make_texts(void) {
     add(circuit(20, "cn 1 2, drawn with three gates", 6, 1),
         "(lines 3)\n(cn 0 2)\n(cn 1 2)\n(cn 0 2)\n");
     add(circuit(21, "cn 1 2 on four lines", 7, 1), "(lines 4)\n(cn 1 2)\n");
+    add(cascade(22, "a Toffoli gate", 5), "(lines 3)\n(mct (0 1) 2)\n");
+    add(cascade(23, "a Toffoli gate twice", 9),
+        "(lines 3)\n(mct (0 1) 2)\n(mct (0 1) 2)\n");
+    add(cascade(24, "a gate of three controls", 14), "(lines 5)\n(mct (0 1 2) 3)\n");
 }
 
-/* The jobs over one text with one signature; quote writes no answer. */
+/* The jobs over one text with one signature, and map for the quote only, which is
+   lent no byte of the answer area. */
 enum job { MAP, REDUCE, QUOTE, JOBS };
 
-static const char *const job_names[] = {"map", "reduce", "quote"};
+static const char *const job_names[] = {"map", "reduce", "quote only"};
 
 static void do_job(enum job job, const uint8_t *text, size_t text_len,
                    uint16_t *list, size_t list_len, uint8_t *answer,
                    size_t answer_len, uint64_t *outcome) {
-    if (job == MAP)
-        yilgorza_map(text, text_len, list, list_len, answer, answer_len, outcome);
-    else if (job == REDUCE)
+    if (job == REDUCE)
         yilgorza_reduce(text, text_len, list, list_len, answer, answer_len, outcome);
     else
-        yilgorza_quote(text, text_len, list, list_len, outcome);
+        yilgorza_map(text, text_len, list, list_len, answer,
+                     job == QUOTE ? 0 : answer_len, outcome);
 }
 
-/* The number and the line that the text is to get from the job. */
-static const uint64_t *expected(enum job job, const struct text *t) {
-    return job == REDUCE ? t->reduced : t->mapped;
+/* The number, the line and the gates that the text is to get from the job, with a list
+   and an area that are long enough. */
+static void expected(enum job job, const struct text *t, uint64_t *numbers) {
+    const uint64_t *given = job == REDUCE ? t->reduced : t->mapped;
+    numbers[YILGORZA_NUMBER] = given[0];
+    numbers[YILGORZA_LINE] = given[1];
+    numbers[YILGORZA_GATES] = given[0] ? 0 : t->gates;
 }
 
 /* The order of two circuits by their places. */

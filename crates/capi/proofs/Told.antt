@@ -20,11 +20,11 @@ use Rattle.records.specs.Records.{filled-by}
 use Rattle.habits.specs.Habits as habits
 use Rattle.habits.specs.Demands.{One}
 use Rattle.jobs.specs.Jobs.{Job, Exit}
-use Rattle.jobs.specs.Handing.{exit-of, exit-of-two, Said, limit-of, Settles, Hands, HandsTwo}
+use Rattle.jobs.specs.Handing.{exit-of, Said, limit-of, Settles, Hands, HandsTwo}
 use Rattle.jobs.proofs.One.{says-one}
 use Rattle.comparison.specs.Compare.{Compare}
 use Rattle.comparison.proofs.One.{compare-one}
-use Rattle.capi.specs.Exported.{codes, not-0, numbers, three, four, front, written, stored, Tells, TellsTwo}
+use Rattle.capi.specs.Exported.{codes, not-0, numbers, four, front, written, stored, Tells, TellsTwo}
 
 -- ---- the number of `not 0`
 
@@ -77,7 +77,7 @@ module _ (number : ℕ) (f : Filling) (l : List ℕ) (w : Settles number (length
 
 -- what a job hands over, written into the list and the outcome
 pub told : {j : Job} {s l a : List ℕ} {d : Done} {o l′ a′ : List ℕ} → Hands j s (length l) a d a′
-    → (l′ ≡ stored (d .filling) l) × (o ≡ three (d .outcome .number) (d .outcome .line) (d .outcome .count)) → Tells j s l a o l′ a′
+    → (l′ ≡ stored (d .filling) l) × (o ≡ four (d .outcome .number) (d .outcome .line) (d .outcome .gates) (d .outcome .bytes)) → Tells j s l a o l′ a′
 told {j} {s} {l} {a} {d} {a′ = a′} w over = rw (over .0, over .1) (record {
   answer = d .outcome;
   outcome = refl;
@@ -108,7 +108,7 @@ module _ (j : Job) (s l a : List ℕ) where
   pub tells-one : {o l′ a′ p m b : List ℕ} → Tells j s l a o l′ a′ → Tells j s l a p m b → (o ≡ p) × (l′ ≡ m) × (a′ ≡ b)
   tells-one t u =
       let e = only t ∙ sym (only u) in (
-        t .outcome ∙ ap (λ (x : Exit). three (x .number) (x .line) (x .count)) e ∙ sym (u .outcome),
+        t .outcome ∙ ap (λ (x : Exit). four (x .number) (x .line) (x .gates) (x .bytes)) e ∙ sym (u .outcome),
         t .list ∙ ap (λ (x : Exit). numbers (x .number) l (x .list)) e ∙ sym (u .list),
         ap (λ (x : Exit). x .area) e,
       )

@@ -32,21 +32,21 @@ not-0 = 2
 unfoldable pub numbers : ℕ → List ℕ → List Gate → List ℕ
 numbers number l r = cond (eqb number 1) l (cond (eqb number 2) l (codes r))
 
--- three numbers, as number, line and count
+-- three numbers, as kind, control and target
 abbrev pub three : ℕ → ℕ → ℕ → List ℕ
 three a b c = a ∷ b ∷ c ∷ []
 
--- four numbers, as number, line, text number and count
+-- four numbers, as number, line, gates and bytes, or number, line, text number and count
 abbrev pub four : ℕ → ℕ → ℕ → ℕ → List ℕ
 four a b c d = a ∷ b ∷ c ∷ d ∷ []
 
--- ---- the contract of map, reduce and quote
+-- ---- the contract of map and reduce
 
 -- what one promises of the text, the list and the area at entry, and of the outcome, the list and the area at exit: what its job says
 -- where both lists are read as gates
 pub record Tells (j : Job) (s l a : List ℕ) (o l′ a′ : List ℕ) : Type 0 where
   pub answer : Outcome
-  pub outcome : o ≡ three (answer .number) (answer .line) (answer .count)
+  pub outcome : o ≡ four (answer .number) (answer .line) (answer .gates) (answer .bytes)
   pub said : Said j s (gates l) a answer (gates l′) a′
   pub list : l′ ≡ numbers (answer .number) l (gates l′)
 

@@ -1,19 +1,17 @@
-// The jobs as C functions, and one that reads a gate record: gates are numbers, and the outcome is three numbers, or four where a job has several
-// texts.
+// The jobs as C functions, and one that reads a gate record: gates are numbers, and so are the parts of the outcome.
 use gates::Gate;
 use records::Done;
 use records::DoneTwo;
 use records::Filling;
 use text::Kind;
 ghost use mathlib.Core.Path.{_≡_};
-ghost use mathlib.Core.List.{[]};
 ghost use Prim.Native.Nat.{_≤_};
 ghost use lib.ListN.{length};
 ghost use Rattle.gates.specs.Code.{Code};
 ghost use Rattle.records.specs.Records.{Fits};
-ghost use Rattle.jobs.specs.Jobs.{mapping, reducing, quoting, writes};
+ghost use Rattle.jobs.specs.Jobs.{mapping, reducing, writes};
 ghost use Rattle.comparison.specs.Compare.{Compare};
-ghost use Rattle.capi.specs.Exported.{three, four, record-at, written, stored, Storable, Tells, TellsTwo, Whether, gate-parts, RecordParts};
+ghost use Rattle.capi.specs.Exported.{four, record-at, written, stored, Storable, Tells, TellsTwo, Whether, gate-parts, RecordParts};
 
 // The record of the gate `not 0`.
 const NOT_0: u16 = 2;
@@ -51,13 +49,18 @@ fn store_filling(f: Filling, list: &mut [u16])
 }
 
 // Writes what a job over one text hands over into the list and the outcome that the caller lends.
-fn hand_over(d: Done, list: &mut [u16], outcome: &mut [u64; 3])
+fn hand_over(d: Done, list: &mut [u16], outcome: &mut [u64; 4])
     requires { ⌜ Fits (d .filling) (length (now list)) ⌝ }
-    ensures { λ _. ⌜ (now (list .exit) ≡ stored (d .filling) (now (list .entry))) × (now (outcome .exit) ≡ three (d .outcome .number) (d .outcome .line) (d .outcome .count)) ⌝ }
+    ensures { λ _. ⌜ (now (list .exit) ≡ stored (d .filling) (now (list .entry))) × (now (outcome .exit) ≡ four (d .outcome .number) (d .outcome .line) (d .outcome .gates) (d .outcome .bytes)) ⌝ }
 {
     store_filling(d.filling, list);
     let said = d.outcome;
-    *outcome = [said.number as u64, said.line as u64, said.count as u64];
+    *outcome = [
+        said.number as u64,
+        said.line as u64,
+        said.gates as u64,
+        said.bytes as u64,
+    ];
 }
 
 // The same of a job over several texts and two lists.
@@ -76,21 +79,21 @@ fn hand_over_two(d: DoneTwo, list: &mut [u16], list2: &mut [u16], outcome: &mut 
     ];
 }
 
-// Answers a text of this kind with a circuit text.
-fn answer_text(kind: Kind, text: &[u8], list: &mut [u16], answer: &mut [u8], outcome: &mut [u64; 3])
+// Does the job over a text of this kind.
+fn answer_text(kind: Kind, text: &[u8], list: &mut [u16], answer: &mut [u8], outcome: &mut [u64; 4])
     ensures { λ _. ⌜ Tells (writes kind) (now (text .entry)) (now (list .entry)) (now (answer .entry)) (now (outcome .exit)) (now (list .exit)) (now (answer .exit)) ⌝ }
 {
     let d = jobs::text_codes(kind, text, list.len(), answer);
     hand_over(d, list, outcome);
 }
 
-// Maps a cascade text to a circuit text.
+// Maps a cascade text to a circuit text. With an empty answer area it quotes the gate count alone.
 #[no_mangle]
 pub extern "C" fn yilgorza_map(
     text: &[u8],
     list: &mut [u16],
     answer: &mut [u8],
-    outcome: &mut [u64; 3],
+    outcome: &mut [u64; 4],
 )
     ensures { λ _. ⌜ Tells mapping (now (text .entry)) (now (list .entry)) (now (answer .entry)) (now (outcome .exit)) (now (list .exit)) (now (answer .exit)) ⌝ }
 {
@@ -103,20 +106,11 @@ pub extern "C" fn yilgorza_reduce(
     text: &[u8],
     list: &mut [u16],
     answer: &mut [u8],
-    outcome: &mut [u64; 3],
+    outcome: &mut [u64; 4],
 )
     ensures { λ _. ⌜ Tells reducing (now (text .entry)) (now (list .entry)) (now (answer .entry)) (now (outcome .exit)) (now (list .exit)) (now (answer .exit)) ⌝ }
 {
     answer_text(Kind::Circuit, text, list, answer, outcome);
-}
-
-// Quotes the gate count of a cascade text.
-#[no_mangle]
-pub extern "C" fn yilgorza_quote(text: &[u8], list: &mut [u16], outcome: &mut [u64; 3])
-    ensures { λ _. ⌜ Tells quoting (now (text .entry)) (now (list .entry)) [] (now (outcome .exit)) (now (list .exit)) [] ⌝ }
-{
-    let d = jobs::quote_codes(text, list.len());
-    hand_over(d, list, outcome);
 }
 
 // Compares two circuit texts.

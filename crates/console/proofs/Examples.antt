@@ -1,7 +1,8 @@
 -- Document 01's starred examples, as the bytes that the programs write: "gives, whole, from the map program". Assumes nothing.
-use mathlib.Core.Path.{_≡_, refl, sym, _∙_}
+use mathlib.Core.Path.{_≡_, refl, sym, _∙_, subst}
 use mathlib.Core.List.{List, [], _∷_}
 use Prim.Native.Nat.{ℕ, _≤_}
+use Prim.Native.String.{String}
 use native.Mathlib.Omega.{arith}
 use lib.ListN.{length, take, replicate, length-replicate}
 use Rattle.gates.specs.Every.{Every}
@@ -10,121 +11,137 @@ use Rattle.records.specs.declared.Outcome.{Outcome}
 use Rattle.text.specs.Refusals.{number-of}
 use Rattle.text.specs.Text.{circuit-text}
 use Rattle.writing.specs.Decimal as form
-use Rattle.jobs.specs.Jobs.{Job, as-text, as-count, output, Entry, Exit, Says}
-use Rattle.jobs.specs.Examples.{typed, Answer, text, gates, away, Row, gives, expands, Shows, room, Correct, table}
+use Rattle.jobs.specs.Jobs.{Job, mapping, reducing, takes, Output, as-text, as-count, Entry, Exit, Says}
+use Rattle.jobs.specs.Examples.{typed, Answer, text, quote, away, Row, gives, expands, Shows, Gets, Correct, table}
 use Rattle.jobs.proofs.One.{says-one}
+use Rattle.jobs.proofs.Numbers.{text-count}
 use Rattle.jobs.proofs.Table.{examples}
-use Rattle.console.specs.Output.{Prints, answer-bytes}
+use Rattle.console.specs.declared.Program.{Program}
+use Rattle.console.specs.declared.Program.the-variants.{Map, Reduce, Quote}
+use Rattle.console.specs.Output.{job-of, output-of, Prints, answer-bytes}
 use Rattle.console.proofs.Front.{fronts-are}
-use Rattle.console.proofs.Answers.{Left, refused, succeeded, own-left, prints-refusal, prints-success}
+use Rattle.console.proofs.Answers.{Left, refused, succeeded, own-left, area-left, prints-refusal, prints-success}
 
 -- an answer as bytes
 abbrev pub in-bytes : Answer → List ℕ
-in-bytes (text ls) = typed ls
-in-bytes (gates m) = form.quote m
+in-bytes (text ls g b) = typed ls
+in-bytes (quote g) = form.quote g
 in-bytes (away r l) = form.turned-away r l
 
+-- a program that puts this out gives such an answer
+abbrev pub Puts : Answer → Output → Type 0
+Puts (text ls g b) o = o ≡ as-text
+Puts (quote g) o = o ≡ as-count
+Puts (away r l) o = Unit {0}
+
+-- each program over the job that gives such an answer writes it
 abbrev pub Printed : Row → Type 0
-Printed (gives j ls a) = Prints j (typed ls) (in-bytes a)
+Printed (gives j ls a) = (p : Program) → job-of p ≡ j → Puts a (output-of p) → Prints p (typed ls) (in-bytes a)
 Printed (expands n cs t s m) = Unit {0}
 
--- an answer of a job that puts out this, within a program's area
+-- an answer within a program's area, or a refusal
 abbrev Fitting : Row → Type 0
-Fitting (gives j ls (text out)) = (output j ≡ as-text) × (room (text out) ≤ answer-bytes)
-Fitting (gives j ls (gates m)) = (output j ≡ as-count) × (room (gates m) ≤ answer-bytes)
-Fitting (gives j ls (away r l)) = (r ≡ 0 → ⊥) × (room (away r l) ≤ answer-bytes)
+Fitting (gives j ls (text out g b)) = length (typed out) ≤ answer-bytes
+Fitting (gives j ls (quote g)) = Unit {0}
+Fitting (gives j ls (away r l)) = r ≡ 0 → ⊥
 Fitting (expands n cs t s m) = Unit {0}
 
--- what the job is given by a program: a gate list of its own, and an area
-abbrev entry : List ℕ → Entry
-entry s = record { text = s; list = replicate 4096 (Not 0); area = replicate answer-bytes 0 }
+-- ---- a run of a program's job
+
+-- what it is given: a gate list of its own, and the program's area or none
+abbrev lent-area : Program → List ℕ
+lent-area Map = replicate answer-bytes 0
+lent-area Reduce = replicate answer-bytes 0
+lent-area Quote = []
+
+abbrev entry : Program → List ℕ → Entry
+entry p s = record { text = s; list = replicate 4096 (Not 0); area = lent-area p }
 
 area-length : length (replicate {A = ℕ} answer-bytes 0) ≡ answer-bytes
 area-length = length-replicate {A = ℕ} answer-bytes 0
 
-module _ (j : Job) (s : List ℕ) (x : Exit) (says : Says j (entry s) x) where
-  abbrev outcome : Outcome
-  outcome = record { number = x .number; line = x .line; count = x .count }
+-- a program that writes a text has room for it, and one that counts lends nothing
+holds-text : (p : Program) (t : List ℕ) → output-of p ≡ as-text → length t ≤ answer-bytes → length t ≤ length (lent-area p)
+holds-text Map t i l = omega (arith, area-length, l)
+holds-text Reduce t i l = omega (arith, area-length, l)
+holds-text Quote t i l = absurd (text-count (sym i))
 
+lends-nothing : (p : Program) → output-of p ≡ as-count → lent-area p ≡ []
+lends-nothing Map i = absurd (text-count i)
+lends-nothing Reduce i = absurd (text-count i)
+lends-nothing Quote i = refl
+
+abbrev outcome : Exit → Outcome
+outcome x = record { number = x .number; line = x .line; gates = x .gates; bytes = x .bytes }
+
+left : (p : Program) (s : List ℕ) (x : Exit) → Says (job-of p) (entry p s) x → Left (takes (job-of p)) (output-of p) s (lent-area p) (outcome x) (x .area)
+left Map s x y = area-left mapping s (lent-area Map) (outcome x) (x .area) (omega (arith, area-length)) (x .list, y)
+left Reduce s x y = area-left reducing s (lent-area Reduce) (outcome x) (x .area) (omega (arith, area-length)) (x .list, y)
+left Quote s x y = own-left mapping s [] (outcome x) (x .area) (λ w. absurd (text-count (sym w))) (x .list, y)
+
+-- ---- what the program writes then
+
+module _ (p : Program) (s : List ℕ) (x : Exit) (says : Says (job-of p) (entry p s) x) where
   abbrev Leaves : Type 0
-  Leaves = Left j s (entry s .area) outcome (x .area)
+  Leaves = Left (takes (job-of p)) (output-of p) s (lent-area p) (outcome x) (x .area)
 
-  left : Leaves
-  left = own-left j s (entry s .area) outcome (x .area) (λ _. omega (arith, area-length)) (x .list, says)
-
-  prints-text : (t : List ℕ) → output j ≡ as-text → x .number ≡ 0 → take (x .count) (x .area) ≡ t → Prints j s t
-  prints-text t i z e = go left
+  prints-text : (t : List ℕ) → output-of p ≡ as-text → x .number ≡ 0 → take (x .bytes) (x .area) ≡ t → Prints p s t
+  prints-text t i z e = go (left p s x says)
     where
-      go : Leaves → Prints j s t
+      go : Leaves → Prints p s t
       go (refused q n k l b) = absurd (n z)
       go (succeeded {h} {c} {r} q w k f) =
           let u : t ≡ circuit-text (h .lines) r = sym e ∙ fronts-are (rw i at f) in
-          rw u (rw i at (prints-success j s q w))
+          rw u (rw i at (prints-success p s q w))
 
-  prints-gates : (m : ℕ) → output j ≡ as-count → x .number ≡ 0 → x .count ≡ m → Prints j s (form.quote m)
-  prints-gates m i z e = go left
+  prints-gates : (m : ℕ) → output-of p ≡ as-count → x .number ≡ 0 → x .gates ≡ m → Prints p s (form.quote m)
+  prints-gates m i z e = go (left p s x says)
     where
-      go : Leaves → Prints j s (form.quote m)
+      go : Leaves → Prints p s (form.quote m)
       go (refused q n k l b) = absurd (n z)
       go (succeeded {h} {c} {r} q w k f) =
           let g = rw i at f in
           let u : m ≡ length r = sym e ∙ g .0 in
-          rw u (rw i at (prints-success j s q w))
+          rw u (rw i at (prints-success p s q w))
 
-  prints-away : (n l : ℕ) → (n ≡ 0 → ⊥) → x .number ≡ n → x .line ≡ l → Prints j s (form.turned-away n l)
-  prints-away n l z e f = go left
+  prints-away : (n l : ℕ) → (n ≡ 0 → ⊥) → x .number ≡ n → x .line ≡ l → Prints p s (form.turned-away n l)
+  prints-away n l z e f = go (left p s x says)
     where
-      go : Leaves → Prints j s (form.turned-away n l)
+      go : Leaves → Prints p s (form.turned-away n l)
       go (refused {r} {l = i} q k a b c) =
           let u : n ≡ number-of r = sym e ∙ a in
           let v : l ≡ i = sym f ∙ b in
-          rw (u, v) (prints-refusal j s q)
+          rw (u, v) (prints-refusal p s q)
       go (succeeded q w k a) = absurd (z (sym e ∙ k))
 
+-- the job's answer, of a row that is correct
+module _ (p : Program) (ls : List String) (a : Answer) (c : Correct (gives (job-of p) ls a)) (area : Gets a (lent-area p)) where
+  said : (x : Exit) × Says (job-of p) (entry p (typed ls)) x × Shows a x
+  unfolding Correct
+  said =
+      let y = says-one (job-of p) (entry p (typed ls)) in
+      (y .0, y .1, c (entry p (typed ls)) (y .0) refl (omega (arith, length-replicate 4096 (Not 0))) area (y .1))
+
 row-printed : (r : Row) → Fitting r → Correct r → Printed r
-unfolding Correct Shows
+unfolding Shows Gets
 row-printed (expands n cs t s m) f c = tt
-row-printed (gives j ls (text out)) f c =
-    let y = says-one j (entry (typed ls)) in
-    let k = c (entry (typed ls)) (y .0) refl (omega (arith, length-replicate 4096 (Not 0))) (omega (arith, f .1, area-length)) (y .1) in
-    prints-text j (typed ls) (y .0) (y .1) (typed out) (f .0) (k .0) (k .1)
-row-printed (gives j ls (gates m)) f c =
-    let y = says-one j (entry (typed ls)) in
-    let k = c (entry (typed ls)) (y .0) refl (omega (arith, length-replicate 4096 (Not 0))) (omega (arith, f .1, area-length)) (y .1) in
-    prints-gates j (typed ls) (y .0) (y .1) m (f .0) (k .0) (k .1)
-row-printed (gives j ls (away r l)) f c =
-    let y = says-one j (entry (typed ls)) in
-    let k = c (entry (typed ls)) (y .0) refl (omega (arith, length-replicate 4096 (Not 0))) (omega (arith, f .1, area-length)) (y .1) in
-    prints-away j (typed ls) (y .0) (y .1) r l (f .0) (k .0) (k .1)
+row-printed (gives j ls (text out g b)) f c = λ p k i.
+    let (x, y, z) = said p ls (text out g b) (subst (λ (o : Job). Correct (gives o ls (text out g b))) (sym k) c) (holds-text p (typed out) i f) in
+    prints-text p (typed ls) x y (typed out) i (z .0) (z .3)
+row-printed (gives j ls (quote g)) f c = λ p k i.
+    let (x, y, z) = said p ls (quote g) (subst (λ (o : Job). Correct (gives o ls (quote g))) (sym k) c) (lends-nothing p i) in
+    prints-gates p (typed ls) x y g i (z .0) (z .1)
+row-printed (gives j ls (away r l)) f c = λ p k i.
+    let (x, y, z) = said p ls (away r l) (subst (λ (o : Job). Correct (gives o ls (away r l))) (sym k) c) tt in
+    prints-away p (typed ls) x y r l f (z .0) (z .1)
 
 rows-printed : (rs : List Row) → Every Fitting rs → Every Correct rs → Every Printed rs
 rows-printed [] f c = tt
 rows-printed (r ∷ rs) f c = (row-printed r (f .0) (c .0), rows-printed rs (f .1) (c .1))
 
 fitting : Every Fitting table
-unfolding room typed
-fitting = (
-  (refl, omega arith),
-  (
-    (refl, omega arith),
-    (
-      (refl, omega arith),
-      (
-        tt,
-        (
-          (refl, omega arith),
-          (
-            (λ e. omega (arith, e), omega arith),
-            (
-              (λ e. omega (arith, e), omega arith),
-              ((refl, omega arith), ((refl, omega arith), ((refl, omega arith), ((refl, omega arith), ((refl, omega arith), ((refl, omega arith), ((refl, omega arith), tt))))))),
-            ),
-          ),
-        ),
-      ),
-    ),
-  ),
-)
+unfolding typed
+fitting = (omega arith, (tt, (tt, (tt, (tt, (λ e. omega (arith, e), (omega arith, (omega arith, (omega arith, (omega arith, (omega arith, (omega arith, (omega arith, tt)))))))))))))
 
 -- document 01's starred examples, byte for byte
 pub printed-examples : Every Printed table

@@ -5,5 +5,6 @@ pub mod Longest
 pub mod Answers
 pub mod Ended
 pub mod Prints
+pub mod Before
 pub mod Examples
 pub mod Numbers

@@ -13,8 +13,10 @@ use Rattle.habits.specs.Habits.{_then_, passes, taken, told, text-judged}
 use Rattle.habits.proofs.Rules.{Sizes, too-long, too-few, passing, sizes}
 use Rattle.habits.proofs.Lines.{judge-by-line}
 use Rattle.habits.proofs.Yields.{Yields, refuses, ends, yields-away}
-use Rattle.jobs.specs.Jobs.{Job, takes, judged-text}
+use Rattle.jobs.specs.Jobs.{takes, judged-text}
 use Rattle.jobs.proofs.Habits.{judged-told}
+use Rattle.console.specs.declared.Program.{Program}
+use Rattle.console.specs.Output.{job-of}
 
 -- a refusal that programs may write
 abbrev pub Writable : Refusal → (text line : ℕ) → Type 0
@@ -35,6 +37,6 @@ yields-writable t k s = go (sizes s (4096 ∷ []))
     go (passing z) = line (judge k s) refl
 
 -- so no refusal of a program over one text is 2 or 10
-pub never-2-or-10 : (j : Job) (s : List ℕ) {r : Refusal} {l : ℕ} → judged-text (takes j) s 4096 ≡ turned-away r l → (number-of r ≢ 2) × (number-of r ≢ 10)
+pub never-2-or-10 : (p : Program) (s : List ℕ) {r : Refusal} {l : ℕ} → judged-text (takes (job-of p)) s 4096 ≡ turned-away r l → (number-of r ≢ 2) × (number-of r ≢ 10)
 unfolding told
-never-2-or-10 j s q = yields-away (yields-writable 1 (takes j) s) (judged-told 1 (takes j) s 4096 ∙ ap (told 1) q)
+never-2-or-10 p s q = yields-away (yields-writable 1 (takes (job-of p)) s) (judged-told 1 (takes (job-of p)) s 4096 ∙ ap (told 1) q)

@@ -7,31 +7,31 @@ use Rattle.gates.specs.declared.Gate.the-variants.{Not, Powered}
 use Rattle.gates.proofs.ReducedLists.{one-reduced-list}
 use Rattle.text.specs.Text.{Form, lines, gate, bytes, digits, one, two, word, render, rendered, circuit-text}
 use Rattle.text.specs.Judging.{Judged, turned-away, accepted}
-use Rattle.jobs.specs.Jobs.{Job, takes, Output, as-text, as-count, output, judged-text}
+use Rattle.jobs.specs.Jobs.{takes, Output, as-text, as-count, judged-text}
 use Rattle.jobs.proofs.One.{text-passed, passed-valid}
-use Rattle.console.specs.declared.Job as console
-use Rattle.console.specs.Output.{shown, PrintsBy, Prints, job-of, Answers}
+use Rattle.console.specs.declared.Program.{Program}
+use Rattle.console.specs.Output.{job-of, output-of, shown, PrintsBy, Prints, Answers}
 use Rattle.console.proofs.Front.{fronts-one}
 use Rattle.console.proofs.Ended.{Ended, behind, bracket, one-number-ended, two-numbers-ended}
 
 -- ---- exactly one
 
-only : (j : Job) (s : List ℕ) (d : Judged) → judged-text (takes j) s 4096 ≡ d → (w : List ℕ) × PrintsBy (output j) d w × ((v : List ℕ) → PrintsBy (output j) d v → v ≡ w)
+only : (p : Program) (s : List ℕ) (d : Judged) → judged-text (takes (job-of p)) s 4096 ≡ d → (w : List ℕ) × PrintsBy (output-of p) d w × ((v : List ℕ) → PrintsBy (output-of p) d v → v ≡ w)
 unfolding PrintsBy
-only j s (turned-away r l) q = (_, refl, λ v e. e)
-only j s (accepted h c) q =
-    let y = one-reduced-list (h .lines) c (passed-valid (text-passed (takes j) s 4096 q)) in
-    (shown (output j) (h .lines) (y .0), (y .0, y .1, refl), λ v z. z .2 ∙ ap (shown (output j) (h .lines)) (sym (y .2 (z .0) (z .1))))
+only p s (turned-away r l) q = (_, refl, λ v e. e)
+only p s (accepted h c) q =
+    let y = one-reduced-list (h .lines) c (passed-valid (text-passed (takes (job-of p)) s 4096 q)) in
+    (shown (output-of p) (h .lines) (y .0), (y .0, y .1, refl), λ v z. z .2 ∙ ap (shown (output-of p) (h .lines)) (sym (y .2 (z .0) (z .1))))
 
-pub prints-one : (j : Job) (s : List ℕ) → (w : List ℕ) × Prints j s w × ((v : List ℕ) → Prints j s v → v ≡ w)
+pub prints-one : (p : Program) (s : List ℕ) → (w : List ℕ) × Prints p s w × ((v : List ℕ) → Prints p s v → v ≡ w)
 unfolding Prints
-prints-one j s = only j s (judged-text (takes j) s 4096) refl
+prints-one p s = only p s (judged-text (takes (job-of p)) s 4096) refl
 
 -- so the contract of `answer` leaves nothing free
-pub answers-one : (i : console.Job) (s a : List ℕ) (n m : ℕ) (b d : List ℕ) → Answers i s a n b → Answers i s a m d → (n ≡ m) × (b ≡ d)
-answers-one i s a n m b d x y =
-    let p = prints-one (job-of i) s in
-    fronts-one (p .2 (x .written) (x .prints) ∙ sym (p .2 (y .written) (y .prints))) (x .fronts) (y .fronts)
+pub answers-one : (p : Program) (s a : List ℕ) (n m : ℕ) (b d : List ℕ) → Answers p s a n b → Answers p s a m d → (n ≡ m) × (b ≡ d)
+answers-one p s a n m b d x y =
+    let o = prints-one p s in
+    fronts-one (o .2 (x .written) (x .prints) ∙ sym (o .2 (y .written) (y .prints))) (x .fronts) (y .fronts)
 
 -- ---- ended by byte 10
 
@@ -59,6 +59,6 @@ unfolding PrintsBy
 shows-ended k (turned-away r l) w e = rw e (two-numbers-ended (bytes "(turned-away ") _ l)
 shows-ended k (accepted h c) w (r, x, e) = rw e (shown-ended k (h .lines) r)
 
-pub prints-ended : (j : Job) (s w : List ℕ) → Prints j s w → Ended w
+pub prints-ended : (p : Program) (s w : List ℕ) → Prints p s w → Ended w
 unfolding Prints
-prints-ended j s w p = shows-ended (output j) (judged-text (takes j) s 4096) w p
+prints-ended p s w x = shows-ended (output-of p) (judged-text (takes (job-of p)) s 4096) w x

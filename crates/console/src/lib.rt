@@ -1,10 +1,12 @@
 // The programs over one text: the text read from a file or from standard input, a job done on it, and the bytes of its answer written; and of these
 // what the programs over several texts use too.
+ghost use mathlib.Core.List.{[]};
 ghost use Prim.Native.Nat.{_≤_};
 ghost use lib.ListN.{length};
-ghost use Rattle.jobs.specs.Jobs.{output};
+ghost use Rattle.jobs.specs.Jobs.{mapping};
+ghost use Rattle.jobs.specs.Handing.{Own};
 ghost use Rattle.console.specs.Input.{Within};
-ghost use Rattle.console.specs.Output.{Prints, job-of, Answers, Does, Succeeds};
+ghost use Rattle.console.specs.Output.{output-of, Prints, Answers, Does, Succeeds};
 use records::Outcome;
 
 // How many bytes a text may have.
@@ -16,8 +18,8 @@ pub const ANSWER_BYTES: usize = 11 + 11 * 4096;
 // How many bytes the name of a file may have.
 const NAME_BYTES: usize = 4095;
 
-// The job of a program.
-pub enum Job {
+// The programs: map and quote stand over one job.
+pub enum Program {
     Map,
     Reduce,
     Quote,
@@ -25,38 +27,46 @@ pub enum Job {
 
 // ---- what a program writes
 
-// Does a job on a text, with a gate list of its own. Map and reduce leave their text at the front of the area; quote needs none.
-fn outcome_of(job: Job, text: &[u8], out: &mut [u8]) -> Outcome
-    ensures { λ r. ⌜ Does job (now (text .entry)) (now (out .entry)) r (now (out .exit)) ⌝ }
+// Maps a text with no answer area, and a gate list of its own.
+fn quote(text: &[u8]) -> Outcome
+    ensures { λ r. ⌜ Own mapping (now (text .entry)) [] r [] ⌝ }
 {
-    match job {
-        Job::Map => jobs::map_text(text, out),
-        Job::Reduce => jobs::reduce_text(text, out),
-        Job::Quote => jobs::quote_text(text),
+    let mut none = [0u8; 0];
+    jobs::map_text(text, &mut none)
+}
+
+// Does the job of a program on a text, with a gate list of its own. Map and reduce leave their text at the front of the area.
+fn outcome_of(program: Program, text: &[u8], out: &mut [u8]) -> Outcome
+    ensures { λ r. ⌜ Does program (now (text .entry)) (now (out .entry)) r (now (out .exit)) ⌝ }
+{
+    match program {
+        Program::Map => jobs::map_text(text, out),
+        Program::Reduce => jobs::reduce_text(text, out),
+        Program::Quote => quote(text),
     }
 }
 
-// Writes the answer by its count, and gives its length: the text of map and reduce stands there already, and the count is its length.
-fn write_success(job: Job, count: usize, out: &mut [u8]) -> usize
+// Writes the answer by its counts, and gives its length: the text of map and reduce, of so many bytes, stands there already.
+fn write_success(program: Program, gates: usize, bytes: usize, out: &mut [u8]) -> usize
     requires { ⌜ 64 ≤ length (now out) ⌝ }
-    ensures { λ r. ⌜ Succeeds (output (job-of job)) count (now (out .entry)) r (now (out .exit)) ⌝ }
+    ensures { λ r. ⌜ Succeeds (output-of program) gates bytes (now (out .entry)) r (now (out .exit)) ⌝ }
 {
-    match job {
-        Job::Map => count,
-        Job::Reduce => count,
-        Job::Quote => writing::write_quote(count, out),
+    match program {
+        Program::Map => bytes,
+        Program::Reduce => bytes,
+        Program::Quote => writing::write_quote(gates, out),
     }
 }
 
 // Leaves at the front of the area the bytes that a program writes for a text, and gives their number.
-pub fn answer(job: Job, text: &[u8], out: &mut [u8; ANSWER_BYTES]) -> usize
-    ensures { λ r. ⌜ Answers job (now (text .entry)) (now (out .entry)) r (now (out .exit)) ⌝ }
+pub fn answer(program: Program, text: &[u8], out: &mut [u8; ANSWER_BYTES]) -> usize
+    ensures { λ r. ⌜ Answers program (now (text .entry)) (now (out .entry)) r (now (out .exit)) ⌝ }
 {
-    let outcome = outcome_of(job, text, out);
+    let outcome = outcome_of(program, text, out);
     if outcome.number != 0 {
         return writing::write_turned_away(outcome.number, outcome.line, out);
     }
-    write_success(job, outcome.count, out)
+    write_success(program, outcome.gates, outcome.bytes, out)
 }
 
 // ---- what a program reads
@@ -161,11 +171,11 @@ fn read_text(buffer: &mut [u8]) -> Input
 }
 
 // Says how a program over one text is called.
-fn tell_usage(job: Job) {
-    match job {
-        Job::Map => tell(b"usage: map [FILE]\n"),
-        Job::Reduce => tell(b"usage: reduce [FILE]\n"),
-        Job::Quote => tell(b"usage: quote [FILE]\n"),
+fn tell_usage(program: Program) {
+    match program {
+        Program::Map => tell(b"usage: map [FILE]\n"),
+        Program::Reduce => tell(b"usage: reduce [FILE]\n"),
+        Program::Quote => tell(b"usage: quote [FILE]\n"),
     }
 }
 
@@ -178,26 +188,26 @@ pub fn write_out(bytes: &[u8]) {
     }
 }
 
-// Writes what the program of a job is to write for a text, which its contract names.
-fn print(job: Job, text: &[u8], bytes: &[u8])
-    requires { ⌜ Prints (job-of job) (now text) (now bytes) ⌝ }
+// Writes what a program is to write for a text, which its contract names.
+fn print(program: Program, text: &[u8], bytes: &[u8])
+    requires { ⌜ Prints program (now text) (now bytes) ⌝ }
 {
     write_out(bytes);
 }
 
-// Writes the answer of a job on a text.
-fn run_on(job: Job, text: &[u8]) {
+// Writes the answer of a program for a text.
+fn run_on(program: Program, text: &[u8]) {
     let mut out = [0u8; ANSWER_BYTES];
-    let n = answer(job, text, &mut out);
-    print(job, text, &out[..n]);
+    let n = answer(program, text, &mut out);
+    print(program, text, &out[..n]);
 }
 
-// A program: does a job on a text. The buffer takes one byte more than a text may have, so a longer one is seen to be too long.
-pub fn run(job: Job) {
+// A program: does its job on a text. The buffer takes one byte more than a text may have, so a longer one is seen to be too long.
+pub fn run(program: Program) {
     let mut buffer = [0u8; TEXT_BYTES + 1];
     match read_text(&mut buffer) {
-        Input::Bytes(n) => run_on(job, &buffer[..n]),
+        Input::Bytes(n) => run_on(program, &buffer[..n]),
         Input::Unreadable => {}
-        Input::Misused => tell_usage(job),
+        Input::Misused => tell_usage(program),
     }
 }

@@ -2,7 +2,7 @@
 use mathlib.Core.Path.{_≡_, refl, sym, ap, _∙_, subst}
 use mathlib.Core.Bool.{Bool, true, false}
 use mathlib.Core.List.{List, _++_}
-use Prim.Native.Nat.{ℕ, _≤_, _<_}
+use Prim.Native.Nat.{ℕ, zero, suc, _≤_, _<_}
 use native.Mathlib.Omega.{arith}
 use lib.ListN.{length, take, drop}
 use lib.Seq.{take-append-seam}
@@ -25,12 +25,24 @@ use Rattle.text.specs.declared.Kind.the-variants.{Cascade, Circuit}
 use Rattle.text.specs.Judging.{Judged, turned-away, accepted, judge}
 use Rattle.habits.specs.Habits.{left}
 use Rattle.habits.proofs.Says.{filled-first}
-use Rattle.jobs.specs.Jobs.{Job, quoting, takes, Output, as-text, as-count, output, Entry, Exit, refusal, judged, success, written, put-out, answered, Settled, Says}
+use Rattle.jobs.specs.Jobs.{Job, mapping, reducing, takes, Output, as-text, as-count, output, wanted, Entry, Exit, refusal, judged, success, written, put-out, answered, Settled, Says}
 use Rattle.jobs.specs.Demands.{Gives, Listed, given, withheld, Ran, ShownCascade, ShownCircuit, Meant, Demand2, Demand3}
 use Rattle.text.proofs.Accepted.{Text, accepted-circuit, text-valid, cascade-of, circuit-of}
 use Rattle.text.proofs.Written.{gates-proper, judge-written}
 use Rattle.text.proofs.Unambiguous.{circuit-text-is, cascade-text-is}
 use Rattle.jobs.proofs.One.{Passed, judged-accepted, passed-valid}
+
+-- ---- what is put out
+
+-- an area of a byte or more gets a text
+pub text-wanted : (j : Job) (n : ℕ) → 1 ≤ n → output j n ≡ as-text
+text-wanted mapping zero h = absurd (omega (arith, h))
+text-wanted mapping (suc n) h = refl
+text-wanted reducing n h = refl
+
+-- with one of length 0 map only quotes
+pub count-wanted : (n : ℕ) → n ≡ 0 → output mapping n ≡ as-count
+count-wanted n z = ap (output mapping) z
 
 -- ---- an accepted text
 
@@ -66,15 +78,15 @@ wrote e r s = go (ltb (length (e .area)) (length s)) refl
     go false q = holds (ltb-false _ _ q) (rw q)
 
 -- a text at the front of the area, and gates at the front of the list
-pub area-front : (e : Entry) (r : List Gate) (s t : List ℕ) {x : Exit} → x ≡ success e r (length s) (s ++ t) → take (x .count) (x .area) ≡ s
-area-front e r s t q = ap (λ (y : Exit). take (y .count) (y .area)) q ∙ take-append-seam s t
+pub area-front : (e : Entry) (r : List Gate) (s t : List ℕ) {x : Exit} → x ≡ success e r (length s) (s ++ t) → take (x .bytes) (x .area) ≡ s
+area-front e r s t q = ap (λ (y : Exit). take (y .bytes) (y .area)) q ∙ take-append-seam s t
 
-list-front : (e : Entry) (r : List Gate) (a : List ℕ) {x : Exit} → x ≡ success e r (length r) a → take (x .count) (x .list) ≡ r
-list-front e r a q = ap (λ (y : Exit). take (y .count) (y .list)) q ∙ filled-first r (e .list)
+list-front : (e : Entry) (r : List Gate) (n : ℕ) (a : List ℕ) {x : Exit} → x ≡ success e r n a → take (x .gates) (x .list) ≡ r
+list-front e r n a q = ap (λ (y : Exit). take (y .gates) (y .list)) q ∙ filled-first r (e .list)
 
-pub refusal-is : (r : Refusal) (l : ℕ) (e : Entry) {x : Exit} → x ≡ refusal r l e → (x .number ≡ number-of r) × (x .line ≡ l) × (x .count ≡ 0) × (x .list ≡ left r (e .list)) × (x .area ≡ e .area)
+pub refusal-is : (r : Refusal) (l : ℕ) (e : Entry) {x : Exit} → x ≡ refusal r l e → (x .number ≡ number-of r) × (x .line ≡ l) × ((x .gates ≡ 0) × (x .bytes ≡ 0)) × (x .list ≡ left r (e .list)) × (x .area ≡ e .area)
 unfolding refusal
-refusal-is r l e q = (ap (λ (y : Exit). y .number) q, ap (λ (y : Exit). y .line) q, ap (λ (y : Exit). y .count) q, ap (λ (y : Exit). y .list) q, ap (λ (y : Exit). y .area) q)
+refusal-is r l e q = (ap (λ (y : Exit). y .number) q, ap (λ (y : Exit). y .line) q, (ap (λ (y : Exit). y .gates) q, ap (λ (y : Exit). y .bytes) q), ap (λ (y : Exit). y .list) q, ap (λ (y : Exit). y .area) q)
 
 -- ---- the list that a job gives
 
@@ -94,7 +106,7 @@ listed-text e n c r x f w (holds h q) = given (ap (λ (y : Exit). y .number) q)
 listed-answer : (o : Output) (e : Entry) (h : Head) (c r : List Gate) (x : Exit) → Facts (h .lines) c r → Reduced (h .lines) c r → x ≡ put-out o e h r → Listed o (h .lines) c x r
 unfolding Gives
 listed-answer as-text e h c r x f w q = listed-text e (h .lines) c r x f w (rw q (wrote e r (circuit-text (h .lines) r)))
-listed-answer as-count e h c r x f w q = given (ap (λ (y : Exit). y .number) q) (list-front e r (e .area) q)
+listed-answer as-count e h c r x f w q = given (ap (λ (y : Exit). y .number) q) (list-front e r 0 (e .area) q)
 
 -- the circuit of a run, and what its job said of it
 record Answer {n : ℕ} {c r : List Gate} (a : Ran n c r) : Type 0 where
@@ -102,7 +114,7 @@ record Answer {n : ℕ} {c r : List Gate} (a : Ran n c r) : Type 0 where
   list : List Gate
   reduced : Reduced n c list
   is : a .exit ≡ answered (a .job) (a .entry) (a .head) list
-  listed : Listed (output (a .job)) n c (a .exit) list
+  listed : Listed (wanted (a .job) (a .entry)) n c (a .exit) list
 
 answer : {n : ℕ} {c r : List Gate} (a : Ran n c r) → Answer a
 unfolding answered
@@ -114,25 +126,25 @@ answer {n} {c} a =
       list = s .0;
       reduced = subst (λ (m : ℕ). Reduced m c (s .0)) (a .lines) (s .1);
       is = s .2;
-      listed = subst (λ (m : ℕ). Listed (output (a .job)) m c (a .exit) (s .0)) (a .lines) (listed-answer (output (a .job)) (a .entry) (a .head) c (s .0) (a .exit) (facts p (s .1)) (s .1) (s .2));
+      listed = subst (λ (m : ℕ). Listed (wanted (a .job) (a .entry)) m c (a .exit) (s .0)) (a .lines) (listed-answer (wanted (a .job) (a .entry)) (a .entry) (a .head) c (s .0) (a .exit) (facts p (s .1)) (s .1) (s .2));
     }
 
 pub ran-reduced : {n : ℕ} {c r : List Gate} → Ran n c r → Reduced n c r
 ran-reduced {n} {c} {r} a = go (a .listed) (answer a .listed)
   where
-    go : Listed (output (a .job)) n c (a .exit) r → Listed (output (a .job)) n c (a .exit) (answer a .list) → Reduced n c r
+    go : Listed (wanted (a .job) (a .entry)) n c (a .exit) r → Listed (wanted (a .job) (a .entry)) n c (a .exit) (answer a .list) → Reduced n c r
     go (withheld z w) l = w
     go (given z g) (withheld y w) = absurd (omega (arith, z, y))
-    go (given z g) (given y k) = rw (gives-one (output (a .job)) n (a .exit) g k) (answer a .reduced)
+    go (given z g) (given y k) = rw (gives-one (wanted (a .job) (a .entry)) n (a .exit) g k) (answer a .reduced)
 
 -- each run on a text that rules 1 to 9 let pass has exactly one list
-pub listed-one : (j : Job) (e : Entry) (x : Exit) {h : Head} {c : List Gate} → Says j e x → judged (takes j) e ≡ accepted h c → (r : List Gate) × Listed (output j) (h .lines) c x r × ((s : List Gate) → Listed (output j) (h .lines) c x s → s ≡ r)
+pub listed-one : (j : Job) (e : Entry) (x : Exit) {h : Head} {c : List Gate} → Says j e x → judged (takes j) e ≡ accepted h c → (r : List Gate) × Listed (wanted j e) (h .lines) c x r × ((s : List Gate) → Listed (wanted j e) (h .lines) c x s → s ≡ r)
 unfolding answered
 listed-one j e x {h} {c} s q =
     let y = says-accepted j e x s q in
-    (y .0, listed-answer (output j) e h c (y .0) x (facts (judged-accepted (takes j) e q) (y .1)) (y .1) (y .2), λ t k. reduced-unique (h .lines) (ran-reduced (run t k)) (y .1))
+    (y .0, listed-answer (wanted j e) e h c (y .0) x (facts (judged-accepted (takes j) e q) (y .1)) (y .1) (y .2), λ t k. reduced-unique (h .lines) (ran-reduced (run t k)) (y .1))
   where
-    run : (r : List Gate) → Listed (output j) (h .lines) c x r → Ran (h .lines) c r
+    run : (r : List Gate) → Listed (wanted j e) (h .lines) c x r → Ran (h .lines) c r
     run r l = record { job = j; entry = e; exit = x; head = h; says = s; passed = q; lines = refl; listed = l }
 
 -- ---- demand 3
@@ -165,16 +177,22 @@ unfolding Meant
 meant Cascade t w = shown-cascade t w
 meant Circuit t w = shown-circuit t
 
-quote-counts : (j : Job) (e : Entry) (h : Head) (r : List Gate) (x : Exit) → x ≡ answered j e h r → j ≡ quoting → x .count ≡ length r
-unfolding answered
-quote-counts j e h r x q i = ap (λ (y : Exit). y .count) (q ∙ ap (λ (k : Job). answered k e h r) i)
+-- an answer that is no refusal counts the gates of its list
+pub gates-counted : (o : Output) (e : Entry) (h : Head) (r : List Gate) (x : Exit) → x ≡ put-out o e h r → x .number ≡ 0 → x .gates ≡ length r
+gates-counted as-count e h r x q z = ap (λ (y : Exit). y .gates) q
+gates-counted as-text e h r x q z = go (rw q (wrote e r (circuit-text (h .lines) r)))
+  where
+    go : Wrote e r (circuit-text (h .lines) r) x → x .gates ≡ length r
+    go (longer k i) = absurd (omega (arith, refusal-is ShortAnswer 0 e i .0, z))
+    go (holds k i) = ap (λ (y : Exit). y .gates) i
 
 pub demand-2 : {n : ℕ} {c r : List Gate} (a : Ran n c r) → Demand2 a
+unfolding answered
 demand-2 {n} {c} {r} a =
     let w = ran-reduced a in
     let s = answer a in
     record {
       meant = meant (takes (a .job)) (s .text) w;
       matrix = same-matrix-sym n c r (reduced-matrix n w);
-      counted = λ i. quote-counts (a .job) (a .entry) (a .head) (s .list) (a .exit) (s .is) i ∙ ap length (reduced-unique n (s .reduced) w);
+      counted = λ z. gates-counted (wanted (a .job) (a .entry)) (a .entry) (a .head) (s .list) (a .exit) (s .is) z ∙ ap length (reduced-unique n (s .reduced) w);
     }

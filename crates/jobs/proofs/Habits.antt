@@ -1,8 +1,8 @@
--- The three jobs keep the habits: what each says is what the habits say of one text, one gate list and one area, but for the text number.
+-- Map and reduce keep the habits: what each says is what the habits say of one text, one gate list and one area, but for the text number and the
+-- gates.
 -- Assumes nothing.
 use Prim.Native.Nat.{ℕ}
 use mathlib.Core.Path.{_≡_, refl, sym, ap, _∙_, subst}
-use mathlib.Core.Logic.{_↔_}
 use mathlib.Core.Bool.{Bool, true, false, cond}
 use mathlib.Core.List.{List, [], _∷_, _++_}
 use native.Mathlib.Omega.{arith}
@@ -19,13 +19,13 @@ use Rattle.text.specs.Text.{circuit-text}
 use Rattle.text.specs.Judging.{Judged, turned-away, accepted, Found, sound, breaks, first, or-else, judge}
 use Rattle.text.proofs.Accepted.{away-accepted}
 use Rattle.habits.specs.Habits as habits
-use Rattle.habits.specs.Habits.{Judgement, away, _then_, passes, size-rules, taken, Circuit, told, text-judged, Answer, all-filled}
+use Rattle.habits.specs.Habits.{Judgement, away, _then_, passes, size-rules, taken, Circuit, told, text-judged, all-filled}
 use Rattle.habits.specs.Demands.{Sized, Refuses, Accepts}
 use Rattle.habits.proofs.Rules.{Sizes, too-long, too-few, passing, sizes}
 use Rattle.habits.proofs.Yields.{away-is, away-fine}
 use Rattle.habits.proofs.Refused.{refuses-exactly-if}
-use Rattle.jobs.specs.Jobs.{Job, takes, Output, as-text, as-count, output, Entry, Exit, refusal, judged-text, judged, success, written, put-out, answered, Settled, Says}
-use Rattle.jobs.specs.Habits.{answer, Right, lent, Keeps, without-text}
+use Rattle.jobs.specs.Jobs.{Job, takes, Output, as-text, as-count, wanted, Entry, Exit, refusal, judged-text, judged, success, written, put-out, answered, Settled, Says}
+use Rattle.jobs.specs.Habits.{answer, Right, lent, Keeps, Agrees}
 
 -- ---- judging
 
@@ -85,47 +85,53 @@ module _ (k : Kind) (s : List ℕ) (records : ℕ) where
 
 module _ (e : Entry) where
   -- a refusal
-  refused : (r : Refusal) (l : ℕ) → without-text (habits.refusal r 1 l (lent e)) ≡ refusal r l e
+  refused : (r : Refusal) (t l : ℕ) → Agrees (habits.refusal r t l (lent e)) (refusal r l e)
   unfolding habits.refusal refusal
-  refused r l = refl
+  refused r t l = record { number = refl; line = refl; bytes = refl; list = refl; area = refl }
+
+  -- a success with the text s
+  succeeded : (r : List Gate) (s : List ℕ) → Agrees (habits.success (record { count = length s; circuits = r ∷ []; text = s }) (lent e)) (success e r (length s) (s ++ drop (length s) (e .area)))
+  unfolding habits.success all-filled
+  succeeded r s = record { number = refl; line = refl; bytes = refl; list = refl; area = refl }
 
   -- an answer, or refusal 10
-  answers : (o : Output) (h : Head) (r : List Gate) → without-text (habits.answered (answer o (h .lines) r) (lent e)) ≡ put-out o e h r
-  unfolding habits.answered habits.refusal habits.success all-filled written refusal
-  answers as-text h r = go (ltb (length (e .area)) (length (circuit-text (h .lines) r)))
+  answers : (o : Output) (h : Head) (r : List Gate) → Agrees (habits.answered (answer o (h .lines) r) (lent e)) (put-out o e h r)
+  unfolding habits.answered written
+  answers as-text h r = go (ltb (length (e .area)) (length s))
     where
-      go : (b : Bool) → without-text (cond b (habits.refusal ShortAnswer 0 0 (lent e)) (habits.success (answer as-text (h .lines) r) (lent e)))
-          ≡ cond b (refusal ShortAnswer 0 e) (success e r (length (circuit-text (h .lines) r)) (circuit-text (h .lines) r ++ drop (length (circuit-text (h .lines) r)) (e .area)))
-      go true = refl
-      go false = refl
-  answers as-count h r =
-      ap (λ (b : Bool). without-text (cond b (habits.refusal ShortAnswer 0 0 (lent e)) (habits.success (answer as-count (h .lines) r) (lent e)))) (le-ltb (length (e .area)) 0 (omega arith))
+      s : List ℕ
+      s = circuit-text (h .lines) r
+
+      go : (b : Bool) → Agrees (cond b (habits.refusal ShortAnswer 0 0 (lent e)) (habits.success (answer as-text (h .lines) r) (lent e))) (cond b (refusal ShortAnswer 0 e) (success e r (length s) (s ++ drop (length s) (e .area))))
+      go true = refused ShortAnswer 0 0
+      go false = succeeded r s
+  answers as-count h r = rw (le-ltb (length (e .area)) 0 (omega arith)) (succeeded r [])
 
 -- ---- the contracts
 
 module _ (j : Job) (e : Entry) where
   -- what the habits say of what was judged
   abbrev By : Judgement Circuit → habits.Exit → Type 0
-  By v x = habits.Says v (Right (output j)) (lent e) x
+  By v x = habits.Says v (Right (wanted j e)) (lent e) x
 
-  -- what the habits say, the job says
-  kept-says : (x : habits.Exit) → Keeps j e x → Says j e (without-text x)
+  -- what the habits say, the job says with some gates
+  pub kept-says : (x : habits.Exit) → Keeps j e x → (y : Exit) × Says j e y × Agrees x y
   unfolding Keeps habits.Says told Says Settled judged answered
   kept-says x k = go (judged (takes j) e) (subst (λ (v : Judgement Circuit). By v x) (judged-told 1 (takes j) (e .text) (length (e .list))) k)
     where
-      go : (d : Judged) → By (told 1 d) x → Settled j e d (without-text x)
-      go (turned-away r l) z = ap without-text z ∙ refused e r l
-      go (accepted h c) (w, (r, f, i), z) = (r, f, ap without-text (z ∙ ap (λ (a : Answer). habits.answered a (lent e)) i) ∙ answers e (output j) h r)
+      go : (d : Judged) → By (told 1 d) x → (y : Exit) × Settled j e d y × Agrees x y
+      go (turned-away r l) z = (refusal r l e, refl, rw z (refused e r 1 l))
+      go (accepted h c) (w, (r, f, i), z) = (put-out (wanted j e) e h r, (r, f, refl), rw (z, i) (answers e (wanted j e) h r))
 
   -- what the job says, the habits say with some text number
-  says-kept : (y : Exit) → Says j e y → (x : habits.Exit) × Keeps j e x × (without-text x ≡ y)
+  pub says-kept : (y : Exit) → Says j e y → (x : habits.Exit) × Keeps j e x × Agrees x y
   unfolding Keeps habits.Says told Says Settled judged answered
   says-kept y k = let z = go (judged (takes j) e) k in (z .0, subst (λ (v : Judgement Circuit). By v (z .0)) (sym (judged-told 1 (takes j) (e .text) (length (e .list)))) (z .1), z .2)
     where
-      go : (d : Judged) → Settled j e d y → (x : habits.Exit) × By (told 1 d) x × (without-text x ≡ y)
-      go (turned-away r l) z = (habits.refusal r 1 l (lent e), refl, refused e r l ∙ sym z)
-      go (accepted h c) (r, f, i) = let w = answer (output j) (h .lines) r in (habits.answered w (lent e), (w, (r, f, refl), refl), answers e (output j) h r ∙ sym i)
+      go : (d : Judged) → Settled j e d y → (x : habits.Exit) × By (told 1 d) x × Agrees x y
+      go (turned-away r l) z = (habits.refusal r 1 l (lent e), refl, rw z (refused e r 1 l))
+      go (accepted h c) (r, f, i) = let w = answer (wanted j e) (h .lines) r in (habits.answered w (lent e), (w, (r, f, refl), refl), rw i (answers e (wanted j e) h r))
 
-  -- what a job says is what the habits say, but for the text number
-  pub base-keeps : (y : Exit) → Says j e y ↔ ((x : habits.Exit) × Keeps j e x × (without-text x ≡ y))
-  base-keeps y = (says-kept y, λ (x, k, i). subst (Says j e) i (kept-says x k))
+  -- what a job says is what the habits say, but for the text number and the gates
+  pub base-keeps : ((y : Exit) → Says j e y → (x : habits.Exit) × Keeps j e x × Agrees x y) × ((x : habits.Exit) → Keeps j e x → (y : Exit) × Says j e y × Agrees x y)
+  base-keeps = (says-kept, kept-says)

@@ -1,13 +1,13 @@
 -- What the covered part of a job hands over makes the job say what it should: of the gate list that needs only its length. Assumes nothing.
 use mathlib.Core.Path.{_≡_, refl, sym, ap, _∙_, subst}
-use mathlib.Core.Bool.{Bool, true, false, cond}
+use mathlib.Core.Bool.{Bool, true, false, cond, true≢false}
 use mathlib.Core.List.{List, [], _∷_, _++_, append-nil}
-use Prim.Native.Nat.{ℕ, _-_, _≤_, _<_}
+use Prim.Native.Nat.{ℕ, zero, suc, _-_, _≤_, _<_}
 use native.Mathlib.Omega.{arith}
 use lib.ListN.{length, take, drop, replicate, drop-of-length-le, length-take}
 use lib.Seq.{take-take}
-use lib.Dec.{ltb, leb}
-use borrow.Author.Tests.{lt-ltb, le-ltb}
+use lib.Dec.{eqb, ltb, leb}
+use borrow.Author.Tests.{ne-eqb, lt-ltb, le-ltb}
 use Rattle.gates.specs.declared.Gate.{Gate}
 use Rattle.gates.specs.declared.Gate.the-variants.{Not}
 use Rattle.gates.specs.Code.{gates}
@@ -30,9 +30,9 @@ use Rattle.loading.specs.Loaded.{Renderable, LoadsTo}
 use Rattle.reduction.specs.Reducing.{ReducedTo}
 use Rattle.habits.specs.Habits as habits
 use Rattle.habits.specs.Habits.{size-rules, left, filled, all-filled, Judgement, fine, away, Lent, Answer}
-use Rattle.jobs.specs.Jobs.{Job, quoting, takes, as-text, as-count, output, writes, Exit, refusal, judged, judged-text, success, written, answered, Settled, Says}
+use Rattle.jobs.specs.Jobs.{Job, mapping, takes, Output, as-text, as-count, output, writes, Exit, refusal, judged, judged-text, success, written, answered, Settled, Says}
 use Rattle.jobs.proofs.One.{text-passed, passed-valid}
-use Rattle.jobs.specs.Handing.{exit-of, Said, limit-of, Settles, Hands, AcceptsReduced, LoadsReduced, HandsTwo, refusal-filling, success-filling, refused, refused-two, succeeded-two, succeeded, text-of, written-done, written-area, text-done, text-area, count-done, Answerable}
+use Rattle.jobs.specs.Handing.{exit-of, Said, limit-of, Settles, Hands, AcceptsReduced, LoadsReduced, HandsTwo, refusal-filling, success-filling, refused, refused-two, succeeded-two, succeeded, text-of, written-done, written-area, quotes, put-done, put-area, loaded-done, loaded-area, Answerable}
 
 -- ---- the records
 
@@ -90,10 +90,10 @@ pub too-short : (h : Head) (m room size : ℕ) (codes a : List ℕ) → size ≡
 unfolding written-done written-area
 too-short h m room size codes a e l = let q = lt-ltb (length a) (length (text-of h m codes)) (omega (arith, e, l)) in (rw q, rw q)
 
-pub long-enough : (h : Head) (m room size count : ℕ) (codes a b : List ℕ) → size ≡ length (text-of h m codes) → size ≤ length a → count ≡ length (text-of h m codes)
-    → b ≡ text-of h m codes ++ drop count a → (succeeded m count room codes ≡ written-done h m room codes a) × (b ≡ written-area h m codes a)
+pub long-enough : (h : Head) (m room size bytes : ℕ) (codes a b : List ℕ) → size ≡ length (text-of h m codes) → size ≤ length a → bytes ≡ length (text-of h m codes)
+    → b ≡ text-of h m codes ++ drop bytes a → (succeeded m bytes room codes ≡ written-done h m room codes a) × (b ≡ written-area h m codes a)
 unfolding written-done written-area
-long-enough h m room size count codes a b e l k w = let q = le-ltb (length a) (length (text-of h m codes)) (omega (arith, e, l)) in (rw (q, k), w ∙ rw (q, k))
+long-enough h m room size bytes codes a b e l k w = let q = le-ltb (length a) (length (text-of h m codes)) (omega (arith, e, l)) in (rw (q, k), w ∙ rw (q, k))
 
 -- ---- what the job says
 
@@ -105,7 +105,7 @@ settled j s a l x e q w = subst (λ (g : Judged). Settled j (record { text = s; 
 -- what is handed over with a refusal leads to its exit
 refused-exit : (r : Refusal) (i room : ℕ) (s a codes : List ℕ) (l : List Gate) → length l ≡ room → exit-of (refused r i room codes .outcome) (filled-by (refused r i room codes .filling) l) a ≡ refusal r i (record { text = s; list = l; area = a })
 unfolding refusal refused
-refused-exit r i room s a codes l e = ap (λ (t : List Gate). record { number = number-of r; line = i; count = 0; list = t; area = a }) (refusal-list r room codes l e)
+refused-exit r i room s a codes l e = ap (λ (t : List Gate). record { number = number-of r; line = i; gates = 0; bytes = 0; list = t; area = a }) (refusal-list r room codes l e)
 
 -- a refusal by rules 1 to 9
 pub refused-hands : (j : Job) (s a codes : List ℕ) (room i : ℕ) (r : Refusal) → judged-text (takes j) s room ≡ turned-away r i → Hands j s room a (refused r i room codes) a
@@ -125,26 +125,33 @@ module _ (j : Job) (s a codes : List ℕ) (room : ℕ) (h : Head) (m : ℕ) (all
   settles = success-settles room (w .renderable) (text-passed (takes j) s room (w .judged) .room)
 
   -- what is handed over with success leads to its exit
-  succeeded-exit : (n count : ℕ) (b : List ℕ) (l : List Gate) → length l ≡ room → count ≡ n → exit-of (succeeded m count room codes .outcome) (filled-by (succeeded m count room codes .filling) l) b ≡ success (record { text = s; list = l; area = a }) (gates (take m codes)) n b
+  succeeded-exit : (n : ℕ) (b : List ℕ) (l : List Gate) → length l ≡ room → exit-of (succeeded m n room codes .outcome) (filled-by (succeeded m n room codes .filling) l) b ≡ success (record { text = s; list = l; area = a }) (gates (take m codes)) n b
   unfolding succeeded
-  succeeded-exit n count b l e k =
-      ap (λ (t : List Gate). record { number = 0; line = 0; count = count; list = t; area = b }) (success-list m room codes l (omega (arith, w .renderable .few, all)) e)
-      ∙ ap (λ (i : ℕ). record { number = 0; line = 0; count = i; list = filled (gates (take m codes)) l; area = b }) k
+  succeeded-exit n b l e =
+      let few : m ≤ length codes = omega (arith, w .renderable .few, all) in
+      let counted : m ≡ length (gates (take m codes)) = omega (arith, length-gates (take m codes), length-take m codes, few) in
+      ap (λ (t : List Gate). record { number = 0; line = 0; gates = m; bytes = n; list = t; area = b }) (success-list m room codes l few e)
+      ∙ ap (λ (i : ℕ). record { number = 0; line = 0; gates = i; bytes = n; list = filled (gates (take m codes)) l; area = b }) counted
 
-  -- quote
-  pub quoted-hands : output j ≡ as-count → Hands j s room a (succeeded m m room codes) a
+  -- the count alone
+  quoted-hands : output j (length a) ≡ as-count → Hands j s room a (succeeded m 0 room codes) a
   unfolding answered succeeded
-  quoted-hands i = answers (succeeded m m room codes) a settles (λ l e. rw i (succeeded-exit (length (gates (take m codes))) m a l e (omega (arith, length-gates (take m codes), length-take m codes, w .renderable .few, all))))
+  quoted-hands i = answers (succeeded m 0 room codes) a settles (λ l e. rw i (succeeded-exit 0 a l e))
 
-  -- map and reduce
-  pub written-hands : output j ≡ as-text → Hands j s room a (written-done h m room codes a) (written-area h m codes a)
+  -- the text, where the area has room for it
+  written-hands : output j (length a) ≡ as-text → Hands j s room a (written-done h m room codes a) (written-area h m codes a)
   unfolding written-done written-area written answered refused succeeded
   written-hands i = go (ltb (length a) (length (text-of h m codes))) refl
     where
       go : (b : Bool) → ltb (length a) (length (text-of h m codes)) ≡ b → Hands j s room a (cond b (refused ShortAnswer 0 room codes) (succeeded m (length (text-of h m codes)) room codes)) (cond b a (text-of h m codes ++ drop (length (text-of h m codes)) a))
       go true q = answers (refused ShortAnswer 0 room codes) a (refusal-settles ShortAnswer room codes) (λ l e. rw (i, q) (refused-exit ShortAnswer 0 room s a codes l e))
       go false q = answers (succeeded m (length (text-of h m codes)) room codes) (text-of h m codes ++ drop (length (text-of h m codes)) a) settles
-          (λ l e. rw (i, q) (succeeded-exit (length (text-of h m codes)) (length (text-of h m codes)) _ l e refl))
+          (λ l e. rw (i, q) (succeeded-exit (length (text-of h m codes)) _ l e))
+
+  -- as the job puts it out
+  pub put-hands : (o : Output) → output j (length a) ≡ o → Hands j s room a (put-done o h m room codes a) (put-area o h m codes a)
+  put-hands as-text i = written-hands i
+  put-hands as-count i = quoted-hands i
 
 -- ---- a text that was loaded, and its circuit reduced
 
@@ -166,26 +173,36 @@ answerable j codes (loaded.Refused r l) w = tt
 pub fewer : {h : Head} {m k : ℕ} {codes : List ℕ} → k ≤ m → Renderable h m codes → Renderable h k codes
 fewer {m = m} {k} {codes} l w = record { narrow = w .narrow; few = omega (arith, w .few); codes = rw (← take-take k m codes l) (all-codes-take 32 k (take m codes) (w .codes)) }
 
--- the job that answers a text of this kind with a circuit text takes such a text, and puts out a text
+-- map puts the count out alone if the area is empty
+pub quotes-mapping : (n : ℕ) → eqb n 0 ≡ quotes (output mapping n)
+quotes-mapping zero = refl
+quotes-mapping (suc n) = ne-eqb (suc n) 0 (λ z. omega (arith, z))
+
+-- the count is put out alone, or not
+pub only-quotes : (o : Output) → quotes o ≡ true → o ≡ as-count
+only-quotes as-text e = absurd (true≢false (sym e))
+only-quotes as-count e = refl
+
+pub also-writes : (o : Output) → quotes o ≡ false → o ≡ as-text
+also-writes as-text e = refl
+also-writes as-count e = absurd (true≢false e)
+
+-- the job over a text of this kind takes such a text
 takes-writes : (k : Kind) → takes (writes k) ≡ k
 unfolding takes
 takes-writes Cascade = refl
 takes-writes Circuit = refl
 
-output-writes : (k : Kind) → output (writes k) ≡ as-text
-output-writes Cascade = refl
-output-writes Circuit = refl
-
-pub text-hands : (k : Kind) (s a codes : List ℕ) (room : ℕ) (x : Loaded) → length codes ≡ 4096 → LoadsReduced (judged-text k s room) codes x → Hands (writes k) s room a (text-done x room codes a) (text-area x codes a)
-text-hands k s a codes room x e w = go x (rw (← takes-writes k) at w)
+pub loaded-hands : (k : Kind) (s a codes : List ℕ) (room : ℕ) (x : Loaded) → length codes ≡ 4096 → LoadsReduced (judged-text k s room) codes x
+    → let o = output (writes k) (length a) in Hands (writes k) s room a (loaded-done o x room codes a) (loaded-area o x codes a)
+loaded-hands k s a codes room x e w = go x (rw (← takes-writes k) at w)
   where
-    go : (x : Loaded) → LoadsReduced (judged-text (takes (writes k)) s room) codes x → Hands (writes k) s room a (text-done x room codes a) (text-area x codes a)
-    go (loaded.Accepted h m) v = written-hands (writes k) s a codes room h m e v (output-writes k)
-    go (loaded.Refused r l) v = refused-hands (writes k) s a codes room l r v
+    o : Output
+    o = output (writes k) (length a)
 
-pub count-hands : (s codes : List ℕ) (room : ℕ) (x : Loaded) → length codes ≡ 4096 → LoadsReduced (judged-text (takes quoting) s room) codes x → Hands quoting s room [] (count-done x room codes) []
-count-hands s codes room (loaded.Accepted h m) e w = quoted-hands quoting s [] codes room h m e w refl
-count-hands s codes room (loaded.Refused r l) e w = refused-hands quoting s [] codes room l r w
+    go : (x : Loaded) → LoadsReduced (judged-text (takes (writes k)) s room) codes x → Hands (writes k) s room a (loaded-done o x room codes a) (loaded-area o x codes a)
+    go (loaded.Accepted h m) v = put-hands (writes k) s a codes room h m e v o refl
+    go (loaded.Refused r l) v = refused-hands (writes k) s a codes room l r v
 
 -- ---- to the thin function above it
 

@@ -3,5 +3,7 @@ pub mod Habits
 pub mod One
 pub mod Demands
 pub mod Numbers
+pub mod Quoting
+pub mod Before
 pub mod Table
 pub mod Handed

@@ -17,7 +17,7 @@ use Rattle.text.specs.Judging.{Judged, turned-away, accepted, judge-text, read-
 use Rattle.habits.specs.Habits.{filled}
 use Rattle.habits.specs.Demands.{Sized, failing-line}
 use Rattle.habits.proofs.Says.{left-early, left-late, left-length, filled-first, filled-later, filled-length}
-use Rattle.jobs.specs.Jobs.{Job, takes, Output, as-text, as-count, output, Entry, Exit, refusal, judged, success, put-out, answered, Says}
+use Rattle.jobs.specs.Jobs.{Job, takes, Output, as-text, as-count, wanted, Entry, Exit, refusal, judged, success, put-out, answered, Says}
 use Rattle.jobs.specs.Demands.{Yields, Due, refused, short-answer, no-refusal, RefusalLeaves, SuccessLeaves, Demand1}
 use Rattle.jobs.proofs.Habits.{judged-refuses, refuses-judged, judged-accepts, accepts-judged}
 use Rattle.jobs.proofs.One.{judged-accepted}
@@ -50,29 +50,29 @@ pub text-count : as-text ≡ as-count → ⊥
 text-count e = let z : _≡_ {A = ℕ} 0 1 = cc in omega arith
 
 -- the exit with the text s at the front of the area
-succeeds-text : (j : Job) (e : Entry) (h : Head) (r : List Gate) → output j ≡ as-text
+succeeds-text : (j : Job) (e : Entry) (h : Head) (r : List Gate) → wanted j e ≡ as-text
     → let s = circuit-text (h .lines) r in SuccessLeaves j e (success e r (length s) (s ++ drop (length s) (e .area))) h r
 succeeds-text j e h r i = let s = circuit-text (h .lines) r in
     record {
       list-first = filled-first r (e .list);
       list-later = filled-later r (e .list);
-      area-text = λ _. take-append-seam s _;
-      area-others = λ _. drop-append-seam s _;
+      gates-counted = refl;
       bytes-written = λ _. refl;
-      gates-quoted = λ k. absurd (text-count (sym i ∙ k));
-      area-kept = λ k. absurd (text-count (sym i ∙ k));
+      area-text = λ _. take-append-seam s _;
+      area-others = drop-append-seam s _;
+      none-written = λ k. absurd (text-count (sym i ∙ k));
     }
 
--- the exit with the count of the list r
-succeeds-count : (j : Job) (e : Entry) (h : Head) (r : List Gate) → output j ≡ as-count → SuccessLeaves j e (success e r (length r) (e .area)) h r
+-- the exit with the count of the list r alone
+succeeds-count : (j : Job) (e : Entry) (h : Head) (r : List Gate) → wanted j e ≡ as-count → SuccessLeaves j e (success e r 0 (e .area)) h r
 succeeds-count j e h r i = record {
   list-first = filled-first r (e .list);
   list-later = filled-later r (e .list);
-  area-text = λ k. absurd (text-count (sym k ∙ i));
-  area-others = λ k. absurd (text-count (sym k ∙ i));
+  gates-counted = refl;
   bytes-written = λ k. absurd (text-count (sym k ∙ i));
-  gates-quoted = λ _. refl;
-  area-kept = λ _. refl;
+  area-text = λ k. absurd (text-count (sym k ∙ i));
+  area-others = refl;
+  none-written = λ _. refl;
 }
 
 -- ---- what can come of a run
@@ -83,12 +83,12 @@ data Came (j : Job) (e : Entry) (x : Exit) : Type 0 where
   succeeded : (h : Head) (r : List Gate) (n : ℕ) (a : List ℕ) → Due j e 0 0 → Yields j e h r → x ≡ success e r n a → SuccessLeaves j e (success e r n a) h r → length a ≡ length (e .area) → Came j e x
 
 module _ (j : Job) (e : Entry) (x : Exit) (s : Says j e x) where
-  by-text : (h : Head) (r : List Gate) → Yields j e h r → output j ≡ as-text → Wrote e r (circuit-text (h .lines) r) x → Came j e x
+  by-text : (h : Head) (r : List Gate) → Yields j e h r → wanted j e ≡ as-text → Wrote e r (circuit-text (h .lines) r) x → Came j e x
   by-text h r y i (longer l q) = turned ShortAnswer _ (short-answer h r y i l) q
   by-text h r y i (holds l q) = let t = circuit-text (h .lines) r in
       succeeded h r _ _ (no-refusal h r y (λ _. l)) y q (succeeds-text j e h r i) (length-append t (drop (length t) (e .area)) ∙ omega (arith, l, length-drop (length t) (e .area)))
 
-  by-answer : (h : Head) (r : List Gate) → Yields j e h r → (o : Output) → output j ≡ o → x ≡ put-out o e h r → Came j e x
+  by-answer : (h : Head) (r : List Gate) → Yields j e h r → (o : Output) → wanted j e ≡ o → x ≡ put-out o e h r → Came j e x
   by-answer h r y as-text i q = by-text h r y i (rw q (wrote e r (circuit-text (h .lines) r)))
   by-answer h r y as-count i q = succeeded h r _ _ (no-refusal h r y (λ k. absurd (text-count (sym k ∙ i)))) y q (succeeds-count j e h r i) refl
 
@@ -100,7 +100,7 @@ module _ (j : Job) (e : Entry) (x : Exit) (s : Says j e x) where
       go (turned-away r l) q = turned r l (refused (judged-refuses (takes j) (e .text) (length (e .list)) q)) (says-turned-away j e x s q)
       go (accepted h c) q =
           let a = says-accepted j e x s q in
-          by-answer h (a .0) (record { circuit = c; accepts = judged-accepts (takes j) (e .text) (length (e .list)) q; reduced = a .1 }) (output j) refl (a .2)
+          by-answer h (a .0) (record { circuit = c; accepts = judged-accepts (takes j) (e .text) (length (e .list)) q; reduced = a .1 }) (wanted j e) refl (a .2)
 
   -- ---- the table
 
@@ -112,7 +112,7 @@ module _ (j : Job) (e : Entry) (x : Exit) (s : Says j e x) where
   by-refusal r l q = let f = refusal-is r l e q in (f .0, f .1)
 
   -- a text that rules 1 to 9 let pass has this exit
-  put : (h : Head) (r : List Gate) → Yields j e h r → (o : Output) → output j ≡ o → x ≡ put-out o e h r
+  put : (h : Head) (r : List Gate) → Yields j e h r → (o : Output) → wanted j e ≡ o → x ≡ put-out o e h r
   unfolding judged answered
   put h r y o i = let a = says-accepted j e x s (accepts-judged (takes j) (e .text) (length (e .list)) (y .accepts)) in
       subst (λ (p : Output). x ≡ put-out p e h r) i (a .2 ∙ ap (answered j e h) (reduced-unique (h .lines) (a .1) (y .reduced)))
@@ -133,7 +133,7 @@ module _ (j : Job) (e : Entry) (x : Exit) (s : Says j e x) where
   unfolding judged
   told (refused d) = let z = refuses-judged (takes j) (e .text) (length (e .list)) d in let f = by-refusal (z .0) _ (says-turned-away j e x s (z .1)) in (f .0 ∙ z .2, f .1)
   told (short-answer h r y i l) = too-long r (circuit-text (h .lines) r) l (rw (put h r y as-text i) (wrote e r (circuit-text (h .lines) r)))
-  told (no-refusal h r y f) = put-zero h r (output j) f (put h r y (output j) refl)
+  told (no-refusal h r y f) = put-zero h r (wanted j e) f (put h r y (wanted j e) refl)
 
   empty-told : Sized (e .text) (length (e .list) ∷ []) → e .text ≡ [] → (x .number ≡ 3) × (x .line ≡ 1)
   unfolding judge judge-text read-all cut

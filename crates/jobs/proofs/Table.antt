@@ -3,10 +3,11 @@ use mathlib.Core.Path.{_≡_, refl, sym, ap, _∙_}
 use mathlib.Core.Bool.{Bool, true, false, not, _&&_, true≢false}
 use mathlib.Core.List.{List, [], _∷_}
 use Prim.Native.Nat.{ℕ, _≤_}
+use native.Mathlib.Omega.{arith}
 use native.Mathlib.Decide.{ℕ-discrete, decLt}
 use lib.ListN.{length, take, drop}
 use lib.Dec.{ltb, eqb}
-use borrow.Author.Tests.{le-ltb, ltb-false, eqb-true, not-true}
+use borrow.Author.Tests.{le-ltb, ltb-true, ltb-false, eqb-true, not-true}
 use Rattle.gates.specs.Every.{Every}
 use Rattle.gates.specs.declared.Gate.{Gate}
 use Rattle.gates.specs.Reduced.{Reduced}
@@ -26,11 +27,11 @@ use Rattle.text.specs.Reading.{strip, second, num, tail, pair, list, many, line
 use Rattle.text.specs.Judging as J
 use Rattle.text.specs.declared.Kind.{Kind}
 use Rattle.text.specs.Judging.{Judged, turned-away, accepted, belongs, most, any-from, rising, first, head-rules, rules, or-else, judge-lines, judge-text, read-all, judge}
-use Rattle.jobs.specs.Jobs.{Job, takes, Output, as-text, as-count, output, Entry, Exit, refusal, judged, written, put-out, answered, Says}
-use Rattle.jobs.specs.Examples.{typed, Answer, text, gates, away, Row, gives, expands, Shows, room, Correct, table}
+use Rattle.jobs.specs.Jobs.{Job, mapping, reducing, takes, wanted, Entry, Exit, judged, written, put-out, answered, Says}
+use Rattle.jobs.specs.Examples.{typed, Answer, text, quote, away, Row, gives, expands, Shows, Gets, Correct, table}
 use Rattle.jobs.proofs.Habits.{judged-sized}
 use Rattle.jobs.proofs.One.{judged-accepted, passed-valid, is-nf}
-use Rattle.jobs.proofs.Demands.{says-accepted, says-turned-away, area-front}
+use Rattle.jobs.proofs.Demands.{text-wanted, count-wanted, says-accepted, says-turned-away, area-front, refusal-is}
 
 -- rules 1 and 2 let a short text and a long list pass
 judged-is : (k : Kind) (e : Entry) (s : List ℕ) → e .text ≡ s → length s ≤ 60000 → 4096 ≤ length (e .list) → judged k e ≡ judge k s
@@ -41,10 +42,10 @@ judged-is k e s q h l = judged-sized k (e .text) (length (e .list)) (record { sm
 answered-nf : (j : Job) (e : Entry) {h : Head} {c r : List Gate} {x : Exit} → judged (takes j) e ≡ accepted h c → Reduced (h .lines) c r → x ≡ answered j e h r → x ≡ answered j e h (nf c)
 answered-nf j e {h} q w i = i ∙ ap (answered j e h) (is-nf (passed-valid (judged-accepted (takes j) e q)) w)
 
-text-shown : (e : Entry) (x : Exit) (r : List Gate) (s : List ℕ) → length s ≤ length (e .area) → x ≡ written e r s → (x .number ≡ 0) × (take (x .count) (x .area) ≡ s)
+text-shown : (e : Entry) (x : Exit) (r : List Gate) (s : List ℕ) → length s ≤ length (e .area) → x ≡ written e r s → (x .number ≡ 0) × (x .gates ≡ length r) × (x .bytes ≡ length s) × (take (x .bytes) (x .area) ≡ s)
 unfolding written
 text-shown e x r s h q = let z = rw (le-ltb (length (e .area)) (length s) h) at q in
-    (ap (λ (y : Exit). y .number) z, area-front e r s (drop (length s) (e .area)) z)
+    (ap (λ (y : Exit). y .number) z, ap (λ (y : Exit). y .gates) z, ap (λ (y : Exit). y .bytes) z, area-front e r s (drop (length s) (e .area)) z)
 
 -- ---- a row is tested by computing: its text is judged, and the normal form is compared
 
@@ -60,18 +61,16 @@ same-is [] (b ∷ t) e = absurd (true≢false (sym e))
 same-is (a ∷ s) [] e = absurd (true≢false (sym e))
 same-is (a ∷ s) (b ∷ t) e = let u = both (eqb a b) (same s t) e in let x = eqb-true a b (u .0) in let y = same-is s t (u .1) in cc
 
-unfoldable answers : Output → ℕ → List Gate → Answer → Bool
-answers as-text n r (text out) = same (circuit-text n r) (typed out)
-answers as-text n r (gates m) = false
-answers as-text n r (away m l) = false
-answers as-count n r (text out) = false
-answers as-count n r (gates m) = eqb (length r) m
-answers as-count n r (away m l) = false
+unfoldable answers : Job → ℕ → List Gate → Answer → Bool
+answers j n r (text out g b) = same (circuit-text n r) (typed out) && (ltb 0 (length (typed out)) && (eqb (length r) g && eqb (length (typed out)) b))
+answers mapping n r (quote g) = eqb (length r) g
+answers reducing n r (quote g) = false
+answers j n r (away m l) = false
 
 unfoldable fits : Job → Judged → Answer → Bool
-fits j (accepted h c) a = answers (output j) (h .lines) (nf c) a
-fits j (turned-away r l) (text out) = false
-fits j (turned-away r l) (gates m) = false
+fits j (accepted h c) a = answers j (h .lines) (nf c) a
+fits j (turned-away r l) (text out g b) = false
+fits j (turned-away r l) (quote g) = false
 fits j (turned-away r l) (away m k) = eqb (number-of r) m && eqb l k
 
 unfoldable test : Row → Bool
@@ -84,24 +83,34 @@ tests (r ∷ rs) = test r && tests rs
 
 -- ---- what passes the test holds
 
-answers-shown : (o : Output) (e : Entry) (x : Exit) (h : Head) (r : List Gate) (a : Answer) → room a ≤ length (e .area) → x ≡ put-out o e h r → answers o (h .lines) r a ≡ true → Shows a x
-unfolding answers Shows room
-answers-shown as-text e x h r (text out) m z t = text-shown e x r (typed out) m (rw (same-is (circuit-text (h .lines) r) (typed out) t) at z)
-answers-shown as-text e x h r (gates k) m z t = absurd (true≢false (sym t))
-answers-shown as-text e x h r (away k l) m z t = absurd (true≢false (sym t))
-answers-shown as-count e x h r (text out) m z t = absurd (true≢false (sym t))
-answers-shown as-count e x h r (gates k) m z t = (ap (λ (w : Exit). w .number) z, ap (λ (w : Exit). w .count) z ∙ eqb-true (length r) k t)
-answers-shown as-count e x h r (away k l) m z t = absurd (true≢false (sym t))
+-- an area that gets a text
+text-answers : (j : Job) (e : Entry) (x : Exit) (h : Head) (r : List Gate) (out : List ℕ) → 1 ≤ length out → length out ≤ length (e .area) → x ≡ put-out (wanted j e) e h r → circuit-text (h .lines) r ≡ out
+    → (x .number ≡ 0) × (x .gates ≡ length r) × (x .bytes ≡ length out) × (take (x .bytes) (x .area) ≡ out)
+text-answers j e x h r out l m z i = text-shown e x r out m (rw (text-wanted j (length (e .area)) (omega (arith, l, m)), i) at z)
 
-fits-shown : (j : Job) (e : Entry) (x : Exit) (d : Judged) (a : Answer) → judged (takes j) e ≡ d → room a ≤ length (e .area) → Says j e x → fits j d a ≡ true → Shows a x
-unfolding fits Shows refusal answered
-fits-shown j e x (accepted h c) a p m y t = let w = says-accepted j e x y p in answers-shown (output j) e x h (nf c) a m (answered-nf j e p (w .1) (w .2)) t
-fits-shown j e x (turned-away r l) (text out) p m y t = absurd (true≢false (sym t))
-fits-shown j e x (turned-away r l) (gates k) p m y t = absurd (true≢false (sym t))
+answers-shown : (j : Job) (e : Entry) (x : Exit) (h : Head) (r : List Gate) (a : Answer) → Gets a (e .area) → x ≡ put-out (wanted j e) e h r → answers j (h .lines) r a ≡ true → Shows a x
+unfolding answers Shows Gets
+answers-shown j e x h r (text out g b) m z t =
+    let u = both (same (circuit-text (h .lines) r) (typed out)) _ t in
+    let v = both (ltb 0 (length (typed out))) _ (u .1) in
+    let k = both (eqb (length r) g) _ (v .1) in
+    let w = text-answers j e x h r (typed out) (ltb-true 0 (length (typed out)) (v .0)) m z (same-is (circuit-text (h .lines) r) (typed out) (u .0)) in
+    (w .0, w .1 ∙ eqb-true (length r) g (k .0), w .2 ∙ eqb-true (length (typed out)) b (k .1), w .3)
+answers-shown mapping e x h r (quote g) m z t =
+    let i = rw (count-wanted (length (e .area)) (ap length m)) at z in
+    (ap (λ (w : Exit). w .number) i, ap (λ (w : Exit). w .gates) i ∙ eqb-true (length r) g t, ap (λ (w : Exit). w .bytes) i)
+answers-shown reducing e x h r (quote g) m z t = absurd (true≢false (sym t))
+answers-shown j e x h r (away k l) m z t = absurd (true≢false (sym t))
+
+fits-shown : (j : Job) (e : Entry) (x : Exit) (d : Judged) (a : Answer) → judged (takes j) e ≡ d → Gets a (e .area) → Says j e x → fits j d a ≡ true → Shows a x
+unfolding fits Shows answered
+fits-shown j e x (accepted h c) a p m y t = let w = says-accepted j e x y p in answers-shown j e x h (nf c) a m (answered-nf j e p (w .1) (w .2)) t
+fits-shown j e x (turned-away r l) (text out g b) p m y t = absurd (true≢false (sym t))
+fits-shown j e x (turned-away r l) (quote g) p m y t = absurd (true≢false (sym t))
 fits-shown j e x (turned-away r l) (away k i) p m y t =
-    let z = says-turned-away j e x y p in
+    let z = refusal-is r l e (says-turned-away j e x y p) in
     let u = both (eqb (number-of r) k) (eqb l i) t in
-    (ap (λ (w : Exit). w .number) z ∙ eqb-true (number-of r) k (u .0), ap (λ (w : Exit). w .line) z ∙ eqb-true l i (u .1))
+    (z .0 ∙ eqb-true (number-of r) k (u .0), z .1 ∙ eqb-true l i (u .1), z .2 .0, z .2 .1)
 
 test-correct : (r : Row) → test r ≡ true → Correct r
 unfolding test Correct

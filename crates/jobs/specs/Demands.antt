@@ -16,15 +16,15 @@ use Rattle.text.specs.declared.Kind.{Kind}
 use Rattle.text.specs.declared.Kind.the-variants.{Cascade, Circuit}
 use Rattle.text.specs.Judging.{accepted, judge}
 use Rattle.habits.specs.Demands.{Sized, Refuses, Accepts}
-use Rattle.jobs.specs.Jobs.{Job, quoting, takes, Output, as-text, as-count, output, Entry, Exit, judged, Says}
+use Rattle.jobs.specs.Jobs.{Job, takes, Output, as-text, as-count, wanted, Entry, Exit, judged, Says}
 
 -- ---- the list that a job gives
 
 -- "The list that map or reduce gives is the gates of its answer text, in order; the one that quote gives is the first records of its gate
 -- list, as many as the gates it counts"
 unfoldable pub Gives : Output → ℕ → Exit → List Gate → Type 0
-Gives as-text n x r = judge Circuit (take (x .count) (x .area)) ≡ accepted (record { lines = n }) r
-Gives as-count n x r = take (x .count) (x .list) ≡ r
+Gives as-text n x r = judge Circuit (take (x .bytes) (x .area)) ≡ accepted (record { lines = n }) r
+Gives as-count n x r = take (x .gates) (x .list) ≡ r
 
 -- of an accepted text, the list given; "For a text that only rule 10 refuses, the same holds of the reduced list that these definitions give
 -- its circuit"
@@ -32,7 +32,7 @@ pub data Listed (o : Output) (n : ℕ) (c : List Gate) (x : Exit) (r : List Gate
   given : x .number ≡ 0 → Gives o n x r → Listed o n c x r
   withheld : x .number ≡ 10 → Reduced n c r → Listed o n c x r
 
--- a run of any of the three jobs on a text of n lines that rules 1 to 9 let pass: its circuit c, read or expanded, and its list r
+-- a run of either job on a text of n lines that rules 1 to 9 let pass: its circuit c, read or expanded, and its list r
 pub record Ran (n : ℕ) (c r : List Gate) : Type 0 where
   pub job : Job
   pub entry : Entry
@@ -41,7 +41,7 @@ pub record Ran (n : ℕ) (c r : List Gate) : Type 0 where
   pub says : Says job entry exit
   pub passed : judged (takes job) entry ≡ accepted head c
   pub lines : head .lines ≡ n
-  pub listed : Listed (output job) n c exit r
+  pub listed : Listed (wanted job entry) n c exit r
 
 -- ---- demand 1: every call answers, and the numbers are the table's
 
@@ -56,14 +56,14 @@ pub data Due (j : Job) (e : Entry) : ℕ → ℕ → Type 0 where
   -- 1 to 9: by the table of one text (crate habits), with which the gate list is judged
   refused : {n l : ℕ} → Refuses (takes j) (e .text) (length (e .list) ∷ []) n l → Due j e n l
   -- "map or reduce: answer text longer than its area": "Then 10, line 0"
-  short-answer : (h : Head) (r : List Gate) → Yields j e h r → output j ≡ as-text → length (e .area) < length (circuit-text (h .lines) r) → Due j e 10 0
+  short-answer : (h : Head) (r : List Gate) → Yields j e h r → wanted j e ≡ as-text → length (e .area) < length (circuit-text (h .lines) r) → Due j e 10 0
   -- success: "Number 0, line 0"
-  no-refusal : (h : Head) (r : List Gate) → Yields j e h r → (output j ≡ as-text → length (circuit-text (h .lines) r) ≤ length (e .area)) → Due j e 0 0
+  no-refusal : (h : Head) (r : List Gate) → Yields j e h r → (wanted j e ≡ as-text → length (circuit-text (h .lines) r) ≤ length (e .area)) → Due j e 0 0
 
 -- what a refusal leaves
 pub record RefusalLeaves (e : Entry) (x : Exit) : Type 0 where
   -- "A refusal returns its number, its line and count 0"
-  pub countless : x .count ≡ 0
+  pub countless : (x .gates ≡ 0) × (x .bytes ≡ 0)
   -- "It leaves the answer area unchanged"
   pub unchanged : x .area ≡ e .area
   -- "Numbers 1 and 2 leave the gate list unchanged; the others leave `not 0` in every record"
@@ -75,14 +75,14 @@ pub record SuccessLeaves (j : Job) (e : Entry) (x : Exit) (h : Head) (r : List G
   -- "On success the gate list holds first the reduced list of the circuit read or expanded, and `not 0` in every later record"
   pub list-first : take (length r) (x .list) ≡ r
   pub list-later : drop (length r) (x .list) ≡ replicate (length (e .list) - length r) (Not 0)
+  -- "returns gates and bytes"
+  pub gates-counted : x .gates ≡ length r
+  pub bytes-written : wanted j e ≡ as-text → x .bytes ≡ length (circuit-text (h .lines) r)
   -- "The answer area holds that list as a circuit text, with the n of the text read, at its front, its other bytes unchanged"
-  pub area-text : output j ≡ as-text → take (x .count) (x .area) ≡ circuit-text (h .lines) r
-  pub area-others : output j ≡ as-text → drop (x .count) (x .area) ≡ drop (x .count) (e .area)
-  -- "and a count come back: bytes written for map and reduce, gates for quote"
-  pub bytes-written : output j ≡ as-text → x .count ≡ length (circuit-text (h .lines) r)
-  pub gates-quoted : output j ≡ as-count → x .count ≡ length r
-  -- "map and reduce also get an answer area": quote writes none
-  pub area-kept : output j ≡ as-count → x .area ≡ e .area
+  pub area-text : wanted j e ≡ as-text → take (x .bytes) (x .area) ≡ circuit-text (h .lines) r
+  pub area-others : drop (x .bytes) (x .area) ≡ drop (x .bytes) (e .area)
+  -- "an answer area of length 0 means quote only": no byte is written
+  pub none-written : wanted j e ≡ as-count → x .bytes ≡ 0
 
 pub record Demand1 (j : Job) (e : Entry) (x : Exit) : Type 0 where
   -- a number is given, with its line, exactly if the table says so
@@ -112,7 +112,7 @@ pub record ShownCircuit (n : ℕ) (s : List ℕ) (c : List Gate) : Type 0 where
   pub shown : s ≡ circuit-text n c
   pub only : (m : ℕ) (d : List Gate) → AllProper (lines m ∷ map gate d) → s ≡ circuit-text m d → (n ≡ m) × (c ≡ d)
 
--- what the text s of a run with circuit c and list r means: map and quote take a cascade text, reduce a circuit text
+-- what the text s of a run with circuit c and list r means: map takes a cascade text, reduce a circuit text
 unfoldable pub Meant : Kind → ℕ → List ℕ → List Gate → List Gate → Type 0
 Meant Cascade n s c r = ShownCascade n s c r
 Meant Circuit n s c r = ShownCircuit n s c
@@ -122,7 +122,7 @@ pub record Demand2 {n : ℕ} {c r : List Gate} (a : Ran n c r) : Type 0 where
   -- the list has the matrix of the circuit read or expanded
   pub matrix : SameMatrix n r c
   -- the quote is the list's number of gates
-  pub counted : a .job ≡ quoting → a .exit .count ≡ length r
+  pub counted : a .exit .number ≡ 0 → a .exit .gates ≡ length r
 
 -- ---- demand 3: the lists given
 

@@ -6,17 +6,17 @@ use mathlib.Core.List.{List, [], _∷_, _++_}
 use lib.ListN.{length, take}
 use Rattle.cascades.specs.Expansion.{spare, expansion}
 use Rattle.text.specs.Text.{bytes}
-use Rattle.jobs.specs.Jobs.{Job, mapping, reducing, quoting, Entry, Exit, Says}
+use Rattle.jobs.specs.Jobs.{Job, mapping, reducing, Entry, Exit, Says}
 
 -- lines as they are typed
 unfoldable pub typed : List String → List ℕ
 typed [] = []
 typed (l ∷ ls) = bytes l ++ (bytes "\n" ++ typed ls)
 
--- the whole answer text; the gates quoted; a refusal and its line
+-- the whole answer text, its gates and its bytes; the gates quoted with an answer area of length 0; a refusal and its line
 pub data Answer : Type 0 where
-  text : List String → Answer
-  gates : ℕ → Answer
+  text : List String → (gates bytes : ℕ) → Answer
+  quote : ℕ → Answer
   away : ℕ → ℕ → Answer
 
 pub data Row : Type 0 where
@@ -25,34 +25,34 @@ pub data Row : Type 0 where
   expands : ℕ → List ℕ → ℕ → ℕ → ℕ → Row
 
 unfoldable pub Shows : Answer → Exit → Type 0
-Shows (text ls) x = (x .number ≡ 0) × (take (x .count) (x .area) ≡ typed ls)
-Shows (gates m) x = (x .number ≡ 0) × (x .count ≡ m)
-Shows (away r l) x = (x .number ≡ r) × (x .line ≡ l)
+Shows (text ls g b) x = (x .number ≡ 0) × (x .gates ≡ g) × (x .bytes ≡ b) × (take (x .bytes) (x .area) ≡ typed ls)
+Shows (quote g) x = (x .number ≡ 0) × (x .gates ≡ g) × (x .bytes ≡ 0)
+Shows (away r l) x = (x .number ≡ r) × (x .line ≡ l) × (x .gates ≡ 0) × (x .bytes ≡ 0)
 
-unfoldable pub room : Answer → ℕ
-room (text ls) = length (typed ls)
-room (gates m) = 0
-room (away r l) = 0
+-- the answer areas that get this answer: those with room enough; that of length 0; all
+unfoldable pub Gets : Answer → List ℕ → Type 0
+Gets (text ls g b) a = length (typed ls) ≤ length a
+Gets (quote g) a = a ≡ []
+Gets (away r l) a = Unit {0}
 
--- whatever gate list of at least 4,096 records and answer area with room enough is lent
+-- whatever gate list of at least 4,096 records and such answer area is lent
 unfoldable pub Correct : Row → Type 0
-Correct (gives j ls a) = (e : Entry) (x : Exit) → e .text ≡ typed ls → 4096 ≤ length (e .list) → room a ≤ length (e .area) → Says j e x → Shows a x
+Correct (gives j ls a) = (e : Entry) (x : Exit) → e .text ≡ typed ls → 4096 ≤ length (e .list) → Gets a (e .area) → Says j e x → Shows a x
 Correct (expands n cs t s m) = (spare n 0 (t ∷ cs) ≡ s) × (length (expansion n cs t) ≡ m)
 
 abbrev pub table : List Row
 table =
-    gives mapping ("(lines 3)" ∷ "(mct (0 1) 2)" ∷ []) (text ("(lines 3)" ∷ "(v 0 2)" ∷ "(v 1 2)" ∷ "(cn 0 1)" ∷ "(vp 1 2)" ∷ "(cn 0 1)" ∷ []))
-    ∷ gives quoting ("(lines 3)" ∷ "(mct (0 1) 2)" ∷ []) (gates 5)
-    ∷ gives quoting ("(lines 3)" ∷ "(mct (0 1) 2)" ∷ "(mct (0 1) 2)" ∷ []) (gates 9)
+    gives mapping ("(lines 3)" ∷ "(mct (0 1) 2)" ∷ []) (text ("(lines 3)" ∷ "(v 0 2)" ∷ "(v 1 2)" ∷ "(cn 0 1)" ∷ "(vp 1 2)" ∷ "(cn 0 1)" ∷ []) 5 53)
+    ∷ gives mapping ("(lines 3)" ∷ "(mct (0 1) 2)" ∷ []) (quote 5)
+    ∷ gives mapping ("(lines 3)" ∷ "(mct (0 1) 2)" ∷ "(mct (0 1) 2)" ∷ []) (quote 9)
     ∷ expands 5 (0 ∷ 1 ∷ 2 ∷ []) 3 4 16
-    ∷ gives quoting ("(lines 5)" ∷ "(mct (0 1 2) 3)" ∷ []) (gates 14)
+    ∷ gives mapping ("(lines 5)" ∷ "(mct (0 1 2) 3)" ∷ []) (quote 14)
     ∷ gives mapping ("(lines 4)" ∷ "(mct (0 1 2) 3)" ∷ []) (away 8 2)
-    ∷ gives quoting ("(lines 4)" ∷ "(mct (0 1 2) 3)" ∷ []) (away 8 2)
-    ∷ gives reducing ("(lines 2)" ∷ "(v 0 1)" ∷ "(v 0 1)" ∷ []) (text ("(lines 2)" ∷ "(cn 0 1)" ∷ []))
-    ∷ gives reducing ("(lines 2)" ∷ "(cn 0 1)" ∷ "(v 0 1)" ∷ []) (text ("(lines 2)" ∷ "(vp 0 1)" ∷ []))
-    ∷ gives reducing ("(lines 2)" ∷ "(v 0 1)" ∷ "(vp 0 1)" ∷ []) (text ("(lines 2)" ∷ []))
-    ∷ gives reducing ("(lines 3)" ∷ "(cn 0 2)" ∷ "(cn 1 2)" ∷ "(cn 0 2)" ∷ []) (text ("(lines 3)" ∷ "(cn 1 2)" ∷ []))
-    ∷ gives reducing ("(lines 3)" ∷ "(cn 0 1)" ∷ "(cn 1 2)" ∷ "(cn 0 1)" ∷ []) (text ("(lines 3)" ∷ "(cn 0 1)" ∷ "(cn 1 2)" ∷ "(cn 0 1)" ∷ []))
-    ∷ gives reducing ("(lines 2)" ∷ "(cn 0 1)" ∷ "(not 1)" ∷ []) (text ("(lines 2)" ∷ "(not 1)" ∷ "(cn 0 1)" ∷ []))
-    ∷ gives reducing ("(lines 2)" ∷ "(not 0)" ∷ "(cn 0 1)" ∷ "(not 0)" ∷ []) (text ("(lines 2)" ∷ "(not 0)" ∷ "(cn 0 1)" ∷ "(not 0)" ∷ []))
+    ∷ gives reducing ("(lines 2)" ∷ "(v 0 1)" ∷ "(v 0 1)" ∷ []) (text ("(lines 2)" ∷ "(cn 0 1)" ∷ []) 1 19)
+    ∷ gives reducing ("(lines 2)" ∷ "(cn 0 1)" ∷ "(v 0 1)" ∷ []) (text ("(lines 2)" ∷ "(vp 0 1)" ∷ []) 1 19)
+    ∷ gives reducing ("(lines 2)" ∷ "(v 0 1)" ∷ "(vp 0 1)" ∷ []) (text ("(lines 2)" ∷ []) 0 10)
+    ∷ gives reducing ("(lines 3)" ∷ "(cn 0 2)" ∷ "(cn 1 2)" ∷ "(cn 0 2)" ∷ []) (text ("(lines 3)" ∷ "(cn 1 2)" ∷ []) 1 19)
+    ∷ gives reducing ("(lines 3)" ∷ "(cn 0 1)" ∷ "(cn 1 2)" ∷ "(cn 0 1)" ∷ []) (text ("(lines 3)" ∷ "(cn 0 1)" ∷ "(cn 1 2)" ∷ "(cn 0 1)" ∷ []) 3 37)
+    ∷ gives reducing ("(lines 2)" ∷ "(cn 0 1)" ∷ "(not 1)" ∷ []) (text ("(lines 2)" ∷ "(not 1)" ∷ "(cn 0 1)" ∷ []) 2 27)
+    ∷ gives reducing ("(lines 2)" ∷ "(not 0)" ∷ "(cn 0 1)" ∷ "(not 0)" ∷ []) (text ("(lines 2)" ∷ "(not 0)" ∷ "(cn 0 1)" ∷ "(not 0)" ∷ []) 3 35)
     ∷ []

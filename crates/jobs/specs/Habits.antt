@@ -1,4 +1,4 @@
--- What the three jobs say by the habits of jobs over several texts (crate habits): of one text, one gate list and one area. Assumes nothing.
+-- What map and reduce say by the habits of jobs over several texts (crate habits): of one text, one gate list and one area. Assumes nothing.
 use Prim.Native.Nat.{ℕ}
 use mathlib.Core.Path.{_≡_}
 use mathlib.Core.List.{List, [], _∷_}
@@ -8,12 +8,12 @@ use Rattle.gates.specs.Reduced.{Reduced}
 use Rattle.text.specs.Text.{circuit-text}
 use Rattle.habits.specs.Habits.{Circuit, text-judged, Lent, Answer, Says}
 use Rattle.habits.specs.Habits as habits
-use Rattle.jobs.specs.Jobs.{Job, takes, Output, as-text, as-count, output, Entry, Exit}
+use Rattle.jobs.specs.Jobs.{Job, takes, Output, as-text, as-count, wanted, Entry, Exit}
 
--- the answer by the reduced list r of a circuit on n lines
+-- the answer by the reduced list r of a circuit on n lines: the habits' count is the number of bytes written
 abbrev pub answer : Output → ℕ → List Gate → Answer
 answer as-text n r = let s = circuit-text n r in record { count = length s; circuits = r ∷ []; text = s }
-answer as-count n r = record { count = length r; circuits = r ∷ []; text = [] }
+answer as-count n r = record { count = 0; circuits = r ∷ []; text = [] }
 
 -- this answer is right for the circuit c
 abbrev pub Right : Output → Circuit → Answer → Type 0
@@ -25,12 +25,12 @@ lent e = record { lists = e .list ∷ []; area = e .area }
 
 -- the contract of a job, by the habits
 unfoldable pub Keeps : Job → Entry → habits.Exit → Type 0
-Keeps j e x = Says (text-judged 1 (takes j) (e .text) (length (e .list) ∷ [])) (Right (output j)) (lent e) x
+Keeps j e x = Says (text-judged 1 (takes j) (e .text) (length (e .list) ∷ [])) (Right (wanted j e)) (lent e) x
 
--- an exit without its text number
-abbrev front : List (List Gate) → List Gate
-front [] = []
-front (l ∷ ls) = l
-
-abbrev pub without-text : habits.Exit → Exit
-without-text x = record { number = x .number; line = x .line; count = x .count; list = front (x .lent .lists); area = x .lent .area }
+-- the two exits agree, but for the text number of the one and the gates of the other
+pub record Agrees (x : habits.Exit) (y : Exit) : Type 0 where
+  pub number : x .number ≡ y .number
+  pub line : x .line ≡ y .line
+  pub bytes : x .count ≡ y .bytes
+  pub list : x .lent .lists ≡ y .list ∷ []
+  pub area : x .lent .area ≡ y .area

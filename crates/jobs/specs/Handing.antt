@@ -1,6 +1,6 @@
 -- What the covered part of a job, which sees only the length of the lent gate list, hands over to the thin function above it. Assumes nothing.
 use mathlib.Core.Path.{_≡_}
-use mathlib.Core.Bool.{cond}
+use mathlib.Core.Bool.{Bool, true, false, cond}
 use mathlib.Core.List.{List, [], _∷_, _++_}
 use Prim.Native.Nat.{ℕ}
 use lib.ListN.{length, take, drop, replicate}
@@ -25,11 +25,11 @@ use Rattle.loading.specs.Loaded.{Renderable}
 use Rattle.loading.specs.declared.Loaded.{Loaded}
 use Rattle.loading.specs.declared.Loaded.the-variants as loaded
 use Rattle.habits.specs.Habits as habits
-use Rattle.jobs.specs.Jobs.{Job, Exit, Says}
+use Rattle.jobs.specs.Jobs.{Job, Output, as-text, as-count, Exit, Says}
 
 -- the exit with this outcome, this list and this area
 abbrev pub exit-of : Outcome → List Gate → List ℕ → Exit
-exit-of o l a = record { number = o .number; line = o .line; count = o .count; list = l; area = a }
+exit-of o l a = record { number = o .number; line = o .line; gates = o .gates; bytes = o .bytes; list = l; area = a }
 
 -- what a job says of its text, list and area at entry, its outcome, and its list and area at exit
 abbrev pub Said : Job → List ℕ → List Gate → List ℕ → Outcome → List Gate → List ℕ → Type 0
@@ -89,11 +89,11 @@ success-filling m room codes = record { codes = codes; gates = m; limit = room }
 
 -- a refusal at line l
 unfoldable pub refused : Refusal → ℕ → ℕ → List ℕ → Done
-refused r l room codes = record { filling = refusal-filling r room codes; outcome = record { number = number-of r; line = l; count = 0 } }
+refused r l room codes = record { filling = refusal-filling r room codes; outcome = record { number = number-of r; line = l; gates = 0; bytes = 0 } }
 
--- success with the first m codes, and this count
+-- success with the first m codes, and this many bytes written
 unfoldable pub succeeded : ℕ → ℕ → ℕ → List ℕ → Done
-succeeded m count room codes = record { filling = success-filling m room codes; outcome = record { number = 0; line = 0; count = count } }
+succeeded m bytes room codes = record { filling = success-filling m room codes; outcome = record { number = 0; line = 0; gates = m; bytes = bytes } }
 
 -- a refusal of a job over two gate lists, at line l of text t
 unfoldable pub refused-two : Refusal → (text line : ℕ) → ℕ → ℕ → List ℕ → List ℕ → DoneTwo
@@ -122,19 +122,28 @@ written-done h m room codes a = cond (ltb (length a) (length (text-of h m codes)
 unfoldable pub written-area : Head → ℕ → List ℕ → List ℕ → List ℕ
 written-area h m codes a = cond (ltb (length a) (length (text-of h m codes))) a (text-of h m codes ++ drop (length (text-of h m codes)) a)
 
--- ---- by the reduced list, or the refusal
+-- ---- by the reduced list, as this is to be put out, or the refusal
 
-abbrev pub text-done : Loaded → ℕ → List ℕ → List ℕ → Done
-text-done (loaded.Accepted h m) room codes a = written-done h m room codes a
-text-done (loaded.Refused r l) room codes a = refused r l room codes
+-- whether the count of its gates is put out alone
+abbrev pub quotes : Output → Bool
+quotes as-text = false
+quotes as-count = true
 
-abbrev pub text-area : Loaded → List ℕ → List ℕ → List ℕ
-text-area (loaded.Accepted h m) codes a = written-area h m codes a
-text-area (loaded.Refused r l) codes a = a
+abbrev pub put-done : Output → Head → ℕ → ℕ → List ℕ → List ℕ → Done
+put-done as-text h m room codes a = written-done h m room codes a
+put-done as-count h m room codes a = succeeded m 0 room codes
 
-abbrev pub count-done : Loaded → ℕ → List ℕ → Done
-count-done (loaded.Accepted h m) room codes = succeeded m m room codes
-count-done (loaded.Refused r l) room codes = refused r l room codes
+abbrev pub put-area : Output → Head → ℕ → List ℕ → List ℕ → List ℕ
+put-area as-text h m codes a = written-area h m codes a
+put-area as-count h m codes a = a
+
+abbrev pub loaded-done : Output → Loaded → ℕ → List ℕ → List ℕ → Done
+loaded-done o (loaded.Accepted h m) room codes a = put-done o h m room codes a
+loaded-done o (loaded.Refused r l) room codes a = refused r l room codes
+
+abbrev pub loaded-area : Output → Loaded → List ℕ → List ℕ → List ℕ
+loaded-area o (loaded.Accepted h m) codes a = put-area o h m codes a
+loaded-area o (loaded.Refused r l) codes a = a
 
 -- the reduced list of an accepted text can be written
 abbrev pub Answerable : Loaded → List ℕ → Type 0

@@ -1,6 +1,6 @@
--- What each of the three jobs says: number, line, count, and each record and byte lent to it, for all inputs (document 01, "Lent memory and
--- the ten numbers"), by the habits that every job keeps (crate habits). Assumes nothing.
-use Prim.Native.Nat.{ℕ}
+-- What map and reduce say: number, line, gates, bytes, and each record and byte lent to them, for all inputs (document 01, "Lent memory and
+-- the ten numbers"; document 02, order 2, "Quote and list in one call"), by the habits that every job keeps (crate habits). Assumes nothing.
+use Prim.Native.Nat.{ℕ, zero, suc}
 use mathlib.Core.Path.{_≡_}
 use mathlib.Core.Bool.{cond}
 use mathlib.Core.List.{List, [], _∷_, _++_}
@@ -18,41 +18,47 @@ use Rattle.text.specs.declared.Kind.the-variants.{Cascade, Circuit}
 use Rattle.text.specs.Judging.{Judged, turned-away, accepted, first, or-else, judge}
 use Rattle.habits.specs.Habits.{left, filled, size-rules}
 
--- map a cascade text to a circuit text, reduce a circuit text, quote the gate count of a cascade
+-- map a cascade text to a circuit text, or quote its gate count alone; reduce a circuit text
 pub data Job : Type 0 where
-  mapping reducing quoting : Job
+  mapping reducing : Job
 
 -- the kind of text that a job takes
 unfoldable pub takes : Job → Kind
 takes mapping = Cascade
 takes reducing = Circuit
-takes quoting = Cascade
 
--- what a job puts out for a text that it accepts: a circuit text, or a count of gates
+-- what a job puts out for a text that it accepts: a circuit text with its counts, or the count of its gates alone
 pub data Output : Type 0 where
   as-text as-count : Output
 
-abbrev pub output : Job → Output
-output mapping = as-text
-output reducing = as-text
-output quoting = as-count
+-- by the length of the answer area: for map, "an answer area of length 0 means quote only"
+abbrev pub output : Job → (area : ℕ) → Output
+output mapping zero = as-count
+output mapping (suc n) = as-text
+output reducing n = as-text
 
--- the job that answers a text of this kind with a circuit text
+-- the job over a text of this kind
 abbrev pub writes : Kind → Job
 writes Cascade = mapping
 writes Circuit = reducing
 
--- what a job is given: the text, the lent gate list, the lent answer area (quote is lent none: its area is empty here)
+-- what a job is given: the text, the lent gate list, the lent answer area
 pub record Entry : Type 0 where
   pub text : List ℕ
   pub list : List Gate
   pub area : List ℕ
 
--- what comes back: number, line and count, and what then stands in the gate list and the answer area
+-- what a job puts out for this entry
+abbrev pub wanted : Job → Entry → Output
+wanted j e = output j (length (e .area))
+
+-- what comes back: number and line, the gates of the list and the bytes of the text written, and what then stands in the gate list and the
+-- answer area
 pub record Exit : Type 0 where
   pub number : ℕ
   pub line : ℕ
-  pub count : ℕ
+  pub gates : ℕ
+  pub bytes : ℕ
   pub list : List Gate
   pub area : List ℕ
 
@@ -60,7 +66,7 @@ pub record Exit : Type 0 where
 
 -- "A refusal returns its number, its line and count 0. It leaves the answer area unchanged"; `left` says what it leaves of the gate list
 unfoldable pub refusal : Refusal → ℕ → Entry → Exit
-refusal r l e = record { number = number-of r; line = l; count = 0; list = left r (e .list); area = e .area }
+refusal r l e = record { number = number-of r; line = l; gates = 0; bytes = 0; list = left r (e .list); area = e .area }
 
 -- ---- rules 1 to 9: "Rule 1 comes first, then 2, both with line 0. Then the lines in order"
 
@@ -71,12 +77,12 @@ judged-text k s records = or-else (first (size-rules (length s) (records ∷ [])
 unfoldable pub judged : Kind → Entry → Judged
 judged k e = judged-text k (e .text) (length (e .list))
 
--- ---- success: number 0, line 0 and a count; "Then 10, line 0"
+-- ---- success: number 0, line 0 and the counts; "Then 10, line 0"
 
--- "the gate list holds first the reduced list of the circuit read or expanded, and `not 0` in every later record": here r, with this count and
--- this area
+-- "the gate list holds first the reduced list of the circuit read or expanded, and `not 0` in every later record": here r, with its number of
+-- gates, this many bytes written and this area
 abbrev pub success : Entry → List Gate → ℕ → List ℕ → Exit
-success e r n a = record { number = 0; line = 0; count = n; list = filled r (e .list); area = a }
+success e r n a = record { number = 0; line = 0; gates = length r; bytes = n; list = filled r (e .list); area = a }
 
 -- "The answer area holds that list as a circuit text, with the n of the text read, at its front, its other bytes unchanged": s is the text of
 -- the list r
@@ -84,13 +90,13 @@ unfoldable pub written : Entry → List Gate → List ℕ → Exit
 written e r s =
     cond (ltb (length (e .area)) (length s)) (refusal ShortAnswer 0 e) (success e r (length s) (s ++ drop (length s) (e .area)))
 
--- the answer by the reduced list r: "bytes written for map and reduce, gates for quote"
+-- the answer by the reduced list r: "quote only .. is never short", and no byte is written
 abbrev pub put-out : Output → Entry → Head → List Gate → Exit
 put-out as-text e h r = written e r (circuit-text (h .lines) r)
-put-out as-count e h r = success e r (length r) (e .area)
+put-out as-count e h r = success e r 0 (e .area)
 
 unfoldable pub answered : Job → Entry → Head → List Gate → Exit
-answered j e h r = put-out (output j) e h r
+answered j e h r = put-out (wanted j e) e h r
 
 -- ---- what a job says
 

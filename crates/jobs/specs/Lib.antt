@@ -2,5 +2,6 @@
 pub mod Jobs
 pub mod Habits
 pub mod Demands
+pub mod Quoting
 pub mod Examples
 pub mod Handing

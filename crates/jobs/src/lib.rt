@@ -1,4 +1,4 @@
-// The three jobs: map a cascade text, reduce a circuit text, quote the gate count of a cascade text.
+// Two jobs: map a cascade text, or quote its gate count alone; reduce a circuit text.
 use gates::Gate;
 use loading::Loaded;
 use loading::Verdict;
@@ -20,8 +20,8 @@ ghost use Rattle.text.specs.Judging.{first};
 ghost use Rattle.loading.specs.Seen.{seen-verdict};
 ghost use Rattle.loading.specs.Loaded.{Renderable, LoadsTo};
 ghost use Rattle.habits.specs.Habits.{size-rules};
-ghost use Rattle.jobs.specs.Jobs.{mapping, reducing, quoting, writes, judged-text, Says};
-ghost use Rattle.jobs.specs.Handing.{LoadsReduced, Hands, Own, refusal-filling, success-filling, refused, refused-two, succeeded-two, succeeded, written-done, written-area, text-done, text-area, count-done, Answerable};
+ghost use Rattle.jobs.specs.Jobs.{mapping, reducing, output, writes, judged-text, Says};
+ghost use Rattle.jobs.specs.Handing.{LoadsReduced, Hands, Own, refusal-filling, success-filling, refused, refused-two, succeeded-two, succeeded, written-done, written-area, quotes, put-done, put-area, loaded-done, loaded-area, Answerable};
 
 // How many records a refusal writes: none for 1 and 2, else all.
 fn limit(number: u8, room: usize) -> usize
@@ -64,7 +64,8 @@ fn refuse(r: Refusal, line: usize, room: usize, codes: [u16; 4096]) -> Done
     let outcome = Outcome {
         number: text::number(r),
         line,
-        count: 0,
+        gates: 0,
+        bytes: 0,
     };
     Done { filling, outcome }
 }
@@ -123,15 +124,16 @@ pub fn succeed_two(
     }
 }
 
-// Success, with the first m codes and a count.
-fn succeed(m: usize, count: usize, room: usize, codes: [u16; 4096]) -> Done
-    ensures { λ d. ⌜ d ≡ succeeded m count room codes ⌝ }
+// Success, with the first so many codes and so many bytes written.
+fn succeed(gates: usize, bytes: usize, room: usize, codes: [u16; 4096]) -> Done
+    ensures { λ d. ⌜ d ≡ succeeded gates bytes room codes ⌝ }
 {
-    let filling = succeed_list(m, room, codes);
+    let filling = succeed_list(gates, room, codes);
     let outcome = Outcome {
         number: 0,
         line: 0,
-        count,
+        gates,
+        bytes,
     };
     Done { filling, outcome }
 }
@@ -145,27 +147,51 @@ fn answer_text(head: Head, m: usize, room: usize, codes: [u16; 4096], answer: &m
     if answer.len() < size {
         return refuse(Refusal::ShortAnswer, 0, room, codes);
     }
-    let count = writing::write_circuit(head, &codes, m, answer);
-    succeed(m, count, room, codes)
+    let bytes = writing::write_circuit(head, &codes, m, answer);
+    succeed(m, bytes, room, codes)
 }
 
-// The answer of map and reduce, by the reduced list or the refusal.
-fn answer_loaded(loaded: Loaded, room: usize, codes: [u16; 4096], answer: &mut [u8]) -> Done
-    requires { ⌜ Answerable loaded codes ⌝ }
-    ensures { λ d. ⌜ (d ≡ text-done loaded room codes (now (answer .entry))) × (now (answer .exit) ≡ text-area loaded codes (now (answer .entry))) ⌝ }
+// Whether the job over a text of this kind only quotes, with an answer area of this size: map does, if the area is empty.
+fn quote_only(kind: Kind, size: usize) -> bool
+    ensures { λ r. ⌜ r ≡ quotes (output (writes kind) size) ⌝ }
 {
-    match loaded {
-        Loaded::Accepted(head, m) => answer_text(head, m, room, codes, answer),
-        Loaded::Refused(r, line) => refuse(r, line, room, codes),
+    match kind {
+        Kind::Cascade => size == 0,
+        Kind::Circuit => false,
     }
 }
 
-// The answer of quote, by the reduced list or the refusal.
-fn count_loaded(loaded: Loaded, room: usize, codes: [u16; 4096]) -> Done
-    ensures { λ d. ⌜ d ≡ count-done loaded room codes ⌝ }
+// The answer by the first m codes: their number alone, or their text too.
+fn put_out(
+    kind: Kind,
+    head: Head,
+    m: usize,
+    room: usize,
+    codes: [u16; 4096],
+    answer: &mut [u8],
+) -> Done
+    requires { ⌜ Renderable head m codes ⌝ }
+    ensures { λ d. ⌜ (d ≡ put-done (output (writes kind) (length (now (answer .entry)))) head m room codes (now (answer .entry))) × (now (answer .exit) ≡ put-area (output (writes kind) (length (now (answer .entry)))) head m codes (now (answer .entry))) ⌝ }
+{
+    if quote_only(kind, answer.len()) {
+        return succeed(m, 0, room, codes);
+    }
+    answer_text(head, m, room, codes, answer)
+}
+
+// The answer of the job over a text of this kind, by the reduced list or the refusal.
+fn answer_loaded(
+    kind: Kind,
+    loaded: Loaded,
+    room: usize,
+    codes: [u16; 4096],
+    answer: &mut [u8],
+) -> Done
+    requires { ⌜ Answerable loaded codes ⌝ }
+    ensures { λ d. ⌜ (d ≡ loaded-done (output (writes kind) (length (now (answer .entry)))) loaded room codes (now (answer .entry))) × (now (answer .exit) ≡ loaded-area (output (writes kind) (length (now (answer .entry)))) loaded codes (now (answer .entry))) ⌝ }
 {
     match loaded {
-        Loaded::Accepted(_, m) => succeed(m, m, room, codes),
+        Loaded::Accepted(head, m) => put_out(kind, head, m, room, codes, answer),
         Loaded::Refused(r, line) => refuse(r, line, room, codes),
     }
 }
@@ -207,13 +233,13 @@ pub fn load_reduced(kind: Kind, text: &[u8], room: usize, codes: &mut [u16]) -> 
     Loaded::Accepted(head, fewer)
 }
 
-// The covered part of the job that answers a text of this kind with a circuit text.
+// The covered part of the job over a text of this kind.
 pub fn text_codes(kind: Kind, text: &[u8], room: usize, answer: &mut [u8]) -> Done
     ensures { λ d. ⌜ Hands (writes kind) (now (text .entry)) room (now (answer .entry)) d (now (answer .exit)) ⌝ }
 {
     let mut codes = [0u16; 4096];
     let loaded = load_reduced(kind, text, room, &mut codes);
-    answer_loaded(loaded, room, codes, answer)
+    answer_loaded(kind, loaded, room, codes, answer)
 }
 
 // The covered part of map.
@@ -230,18 +256,9 @@ fn reduce_codes(text: &[u8], room: usize, answer: &mut [u8]) -> Done
     text_codes(Kind::Circuit, text, room, answer)
 }
 
-// The covered part of quote.
-pub fn quote_codes(text: &[u8], room: usize) -> Done
-    ensures { λ d. ⌜ Hands quoting (now (text .entry)) room [] d [] ⌝ }
-{
-    let mut codes = [0u16; 4096];
-    let loaded = load_reduced(Kind::Cascade, text, room, &mut codes);
-    count_loaded(loaded, room, codes)
-}
-
-// Maps a cascade text to a circuit text.
+// Maps a cascade text to a circuit text. With an empty answer area it quotes the gate count alone.
 pub fn map(text: &[u8], list: &mut [Gate], answer: &mut [u8]) -> Outcome
-    ensures { λ r. ⌜ Says mapping (record { text = now (text .entry); list = now (list .entry); area = now (answer .entry) }) (record { number = r .number; line = r .line; count = r .count; list = now (list .exit); area = now (answer .exit) }) ⌝ }
+    ensures { λ r. ⌜ Says mapping (record { text = now (text .entry); list = now (list .entry); area = now (answer .entry) }) (record { number = r .number; line = r .line; gates = r .gates; bytes = r .bytes; list = now (list .exit); area = now (answer .exit) }) ⌝ }
 {
     let d = map_codes(text, list.len(), answer);
     records::fill(list, d.filling);
@@ -250,23 +267,14 @@ pub fn map(text: &[u8], list: &mut [Gate], answer: &mut [u8]) -> Outcome
 
 // Reduces a circuit text.
 pub fn reduce(text: &[u8], list: &mut [Gate], answer: &mut [u8]) -> Outcome
-    ensures { λ r. ⌜ Says reducing (record { text = now (text .entry); list = now (list .entry); area = now (answer .entry) }) (record { number = r .number; line = r .line; count = r .count; list = now (list .exit); area = now (answer .exit) }) ⌝ }
+    ensures { λ r. ⌜ Says reducing (record { text = now (text .entry); list = now (list .entry); area = now (answer .entry) }) (record { number = r .number; line = r .line; gates = r .gates; bytes = r .bytes; list = now (list .exit); area = now (answer .exit) }) ⌝ }
 {
     let d = reduce_codes(text, list.len(), answer);
     records::fill(list, d.filling);
     d.outcome
 }
 
-// Quotes the gate count of a cascade text.
-pub fn quote(text: &[u8], list: &mut [Gate]) -> Outcome
-    ensures { λ r. ⌜ Says quoting (record { text = now (text .entry); list = now (list .entry); area = [] }) (record { number = r .number; line = r .line; count = r .count; list = now (list .exit); area = [] }) ⌝ }
-{
-    let d = quote_codes(text, list.len());
-    records::fill(list, d.filling);
-    d.outcome
-}
-
-// Map with a gate list of its own, as the other two below.
+// Map with a gate list of its own, as reduce below.
 pub fn map_text(text: &[u8], answer: &mut [u8]) -> Outcome
     ensures { λ r. ⌜ Own mapping (now (text .entry)) (now (answer .entry)) r (now (answer .exit)) ⌝ }
 {
@@ -279,11 +287,4 @@ pub fn reduce_text(text: &[u8], answer: &mut [u8]) -> Outcome
 {
     let mut list = [Gate::Not(0); 4096];
     reduce(text, &mut list, answer)
-}
-
-pub fn quote_text(text: &[u8]) -> Outcome
-    ensures { λ r. ⌜ Own quoting (now (text .entry)) [] r [] ⌝ }
-{
-    let mut list = [Gate::Not(0); 4096];
-    quote(text, &mut list)
 }

@@ -1,6 +1,6 @@
 // Maps a cascade text, of the file named or else on standard input, to a circuit text.
-use console::Job;
+use console::Program;
 
 fn main() {
-    console::run(Job::Map);
+    console::run(Program::Map);
 }

@@ -1,6 +1,6 @@
 // Quotes the gate count of a cascade text, of the file named or else on standard input.
-use console::Job;
+use console::Program;
 
 fn main() {
-    console::run(Job::Quote);
+    console::run(Program::Quote);
 }

@@ -4,11 +4,12 @@ ghost use mathlib.Core.Path.{_≡_};
 ghost use lib.ListN.{length};
 ghost use Rattle.records.specs.Records.{record-at, written, filled-by, Coded, Writable, Fits};
 
-// The number, the line and the count that a job over one text returns.
+// The number and the line that a job over one text returns, the gates of its reduced list, and the bytes that it wrote.
 pub struct Outcome {
     pub number: u8,
     pub line: usize,
-    pub count: usize,
+    pub gates: usize,
+    pub bytes: usize,
 }
 
 // Those of a job over several texts, and the number of the text whose rule or line refuses.

@@ -1,6 +1,6 @@
 // Reduces a circuit text, of the file named or else on standard input.
-use console::Job;
+use console::Program;
 
 fn main() {
-    console::run(Job::Reduce);
+    console::run(Program::Reduce);
 }

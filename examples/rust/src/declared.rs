@@ -19,13 +19,6 @@ extern "C" {
         answer_len: usize,
         outcome: *mut u64,
     );
-    pub fn yilgorza_quote(
-        text: *const u8,
-        text_len: usize,
-        list: *mut u16,
-        list_len: usize,
-        outcome: *mut u64,
-    );
     pub fn yilgorza_compare(
         first: *const u8,
         first_len: usize,

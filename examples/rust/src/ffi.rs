@@ -1,14 +1,14 @@
 //! Safe calls of the C functions: each is proved for all bytes and all lengths, so
 //! a caller has nothing to see to.
 
-use crate::declared::{yilgorza_compare, yilgorza_gate, yilgorza_quote};
+use crate::declared::{yilgorza_compare, yilgorza_gate};
 
 pub type Writing =
     unsafe extern "C" fn(*const u8, usize, *mut u16, usize, *mut u8, usize, *mut u64);
 
-/// Number, line and count of map or reduce.
-pub fn writing(job: Writing, text: &[u8], list: &mut [u16], answer: &mut [u8]) -> [u64; 3] {
-    let mut outcome = [0; 3];
+/// Number, line, gates and bytes of map or reduce.
+pub fn writing(job: Writing, text: &[u8], list: &mut [u16], answer: &mut [u8]) -> [u64; 4] {
+    let mut outcome = [0; 4];
     // The pointers are those of slices, with their lengths, of which those that
     // are written overlap no other.
     unsafe {
@@ -19,22 +19,6 @@ pub fn writing(job: Writing, text: &[u8], list: &mut [u16], answer: &mut [u8]) -
             list.len(),
             answer.as_mut_ptr(),
             answer.len(),
-            outcome.as_mut_ptr(),
-        );
-    }
-    outcome
-}
-
-/// Number, line and count of quote.
-pub fn quote(text: &[u8], list: &mut [u16]) -> [u64; 3] {
-    let mut outcome = [0; 3];
-    // As above.
-    unsafe {
-        yilgorza_quote(
-            text.as_ptr(),
-            text.len(),
-            list.as_mut_ptr(),
-            list.len(),
             outcome.as_mut_ptr(),
         );
     }

@@ -1,5 +1,21 @@
 //! The jobs on memory that the caller lends: a list of at least 4,096 records for
 //! each text, and an answer area. A record is a gate as a number; [`gate`] reads it.
+//! One call of [`map`] gives the gates and the text, or, with an area of length 0,
+//! the gates alone:
+//!
+//! ```
+//! use yilgorza::lent::{self, Counts};
+//!
+//! let text = b"(lines 2)\n(mct (0) 1)\n";
+//! let (mut list, mut answer) = ([0; 4096], [0; 100]);
+//!
+//! let mapped = lent::map(text, &mut list, &mut answer).unwrap();
+//! assert_eq!(mapped, Counts { gates: 1, bytes: 19 });
+//! assert_eq!(&answer[..mapped.bytes], b"(lines 2)\n(cn 0 1)\n");
+//!
+//! let quoted = lent::map(text, &mut list, &mut []).unwrap();
+//! assert_eq!(quoted, Counts { gates: 1, bytes: 0 });
+//! ```
 
 use std::cmp::Ordering;
 
@@ -7,19 +23,23 @@ use crate::declared::{yilgorza_map, yilgorza_reduce};
 use crate::ffi;
 use crate::{Gate, Number, Refusal, SeveralRefusal};
 
-/// Maps a cascade text; the bytes written.
-pub fn map(text: &[u8], list: &mut [u16], answer: &mut [u8]) -> Result<usize, Refusal> {
+/// How much map or reduce gives: the gates, which are the first records of the list,
+/// and the bytes of the circuit text, which are the first of the answer area.
+#[derive(Clone, Copy, Debug, PartialEq, Eq, Hash)]
+pub struct Counts {
+    pub gates: usize,
+    pub bytes: usize,
+}
+
+/// Maps a cascade text. With an answer area of length 0 it only quotes: it gives the
+/// same gates and no bytes, and the area is never too short.
+pub fn map(text: &[u8], list: &mut [u16], answer: &mut [u8]) -> Result<Counts, Refusal> {
     result(ffi::writing(yilgorza_map, text, list, answer))
 }
 
-/// Reduces a circuit text; the bytes written.
-pub fn reduce(text: &[u8], list: &mut [u16], answer: &mut [u8]) -> Result<usize, Refusal> {
+/// Reduces a circuit text. An answer area of length 0 is too short.
+pub fn reduce(text: &[u8], list: &mut [u16], answer: &mut [u8]) -> Result<Counts, Refusal> {
     result(ffi::writing(yilgorza_reduce, text, list, answer))
-}
-
-/// Quotes a cascade text; the gates counted, which are the first records.
-pub fn quote(text: &[u8], list: &mut [u16]) -> Result<usize, Refusal> {
-    result(ffi::quote(text, list))
 }
 
 /// Compares two circuit texts, each with a list of its own. A list then holds the
@@ -47,21 +67,26 @@ pub fn gate(record: u16) -> Option<Gate> {
     }
 }
 
-fn result([number, line, count]: [u64; 3]) -> Result<usize, Refusal> {
-    match number {
-        0 => Ok(count as usize),
-        _ => Err(Refusal {
-            number: Number::ALL[number as usize - 1],
-            line,
+/// The counts of a job over one text.
+fn result([number, line, gates, bytes]: [u64; 4]) -> Result<Counts, Refusal> {
+    match refusal(number) {
+        Some(number) => Err(Refusal { number, line }),
+        None => Ok(Counts {
+            gates: gates as usize,
+            bytes: bytes as usize,
         }),
     }
 }
 
 /// The count of a job over several texts.
 fn several_result([number, line, text, count]: [u64; 4]) -> Result<usize, SeveralRefusal> {
-    result([number, line, count]).map_err(|Refusal { number, line }| SeveralRefusal {
-        number,
-        line,
-        text,
-    })
+    match refusal(number) {
+        Some(number) => Err(SeveralRefusal { number, line, text }),
+        None => Ok(count as usize),
+    }
+}
+
+/// The refusal of this number; none for 0.
+fn refusal(number: u64) -> Option<Number> {
+    (number != 0).then(|| Number::ALL[number as usize - 1])
 }

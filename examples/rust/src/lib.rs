@@ -1,6 +1,5 @@
 //! Maps a cascade of multiple-control Toffoli gates to a list of NCV gates,
-//! reduces such a list, quotes its gate count, and says whether two such lists are
-//! one circuit.
+//! reduces such a list, and says whether two such lists are one circuit.
 //!
 //! ```
 //! let mapped = yilgorza::map(b"(lines 2)\n(mct (0) 1)\n").unwrap();
@@ -11,9 +10,10 @@
 //! assert!(yilgorza::compare(&mapped.text, redrawn).unwrap().is_eq());
 //! ```
 //!
-//! [`map`], [`reduce`], [`quote`] and [`compare`] bring the memory that the C
-//! functions of `include/yilgorza.h` are lent; [`lent`] has them on memory of the
-//! caller's.
+//! [`map`], [`reduce`] and [`compare`] bring the memory that the C functions of
+//! `include/yilgorza.h` are lent; [`lent`] has them on memory of the caller's. The
+//! quote of a cascade is the number of gates that [`map`] gives; [`lent::map`] gives
+//! it without the text too.
 
 mod declared;
 mod ffi;
@@ -161,13 +161,6 @@ pub fn reduce(text: &[u8]) -> Result<Circuit, Refusal> {
     circuit(lent::reduce, text)
 }
 
-/// The reduced list of a cascade text; its length is the quote.
-pub fn quote(text: &[u8]) -> Result<Vec<Gate>, Refusal> {
-    let mut list = vec![0; LIST_RECORDS];
-    let count = lent::quote(text, &mut list)?;
-    Ok(gates(&list[..count]))
-}
-
 /// Compares two circuit texts: by the number of lines of the circuit, then by the
 /// dictionary order of the reduced lists, a list that ends sooner first. They are
 /// equal exactly if they are on the same number of lines and passes and merges lead
@@ -184,22 +177,16 @@ pub fn compare(first: &[u8], second: &[u8]) -> Result<Ordering, SeveralRefusal> 
     lent::compare(first, &mut first_list, second, &mut second_list)
 }
 
-type Writing = fn(&[u8], &mut [u16], &mut [u8]) -> Result<usize, Refusal>;
+type Writing = fn(&[u8], &mut [u16], &mut [u8]) -> Result<lent::Counts, Refusal>;
 
 fn circuit(job: Writing, text: &[u8]) -> Result<Circuit, Refusal> {
     let mut list = vec![0; LIST_RECORDS];
     let mut answer = vec![0; ANSWER_BYTES];
-    let count = job(text, &mut list, &mut answer)?;
-    answer.truncate(count);
-    // Line 1 is no gate, and each later line is one.
-    let lines = answer.iter().filter(|byte| **byte == b'\n').count();
+    let counts = job(text, &mut list, &mut answer)?;
+    answer.truncate(counts.bytes);
+    let gate = |record: &u16| lent::gate(*record).expect("a list given holds gates");
     Ok(Circuit {
-        gates: gates(&list[..lines - 1]),
+        gates: list[..counts.gates].iter().map(gate).collect(),
         text: answer,
     })
-}
-
-fn gates(records: &[u16]) -> Vec<Gate> {
-    let gate = |record: &u16| lent::gate(*record).expect("a list given holds gates");
-    records.iter().map(gate).collect()
 }

@@ -3,7 +3,8 @@
 
 use std::cmp::Ordering;
 
-use yilgorza::{compare, lent, map, quote, reduce, Circuit, Gate, Number, Refusal, SeveralRefusal};
+use yilgorza::lent::{self, Counts};
+use yilgorza::{compare, map, reduce, Circuit, Gate, Number, Refusal, SeveralRefusal};
 
 /// A text of these lines.
 fn text(lines: &[&str]) -> Vec<u8> {
@@ -23,18 +24,27 @@ fn refused_text<T>(number: Number, line: u64, text: u64) -> Result<T, SeveralRef
     Err(SeveralRefusal { number, line, text })
 }
 
+/// The gates that map counts, asked for with an answer area of length 0.
+fn quoted(text: &[u8]) -> Result<Vec<Gate>, Refusal> {
+    let mut list = vec![0; 4096];
+    let Counts { gates, bytes } = lent::map(text, &mut list, &mut [])?;
+    assert_eq!(bytes, 0);
+    let records = list[..gates].iter();
+    Ok(records.map(|record| lent::gate(*record).unwrap()).collect())
+}
+
 const TOFFOLI: [&str; 2] = ["(lines 3)", "(mct (0 1) 2)"];
+const TOFFOLI_MAPPED: [&str; 6] = [
+    "(lines 3)",
+    "(v 0 2)",
+    "(v 1 2)",
+    "(cn 0 1)",
+    "(vp 1 2)",
+    "(cn 0 1)",
+];
 
 #[test]
 fn toffoli() {
-    let answer = [
-        "(lines 3)",
-        "(v 0 2)",
-        "(v 1 2)",
-        "(cn 0 1)",
-        "(vp 1 2)",
-        "(cn 0 1)",
-    ];
     let gates = vec![
         Gate::V {
             control: 0,
@@ -57,11 +67,11 @@ fn toffoli() {
             target: 1,
         },
     ];
-    assert_eq!(quote(&text(&TOFFOLI)).as_ref(), Ok(&gates));
+    assert_eq!(quoted(&text(&TOFFOLI)).as_ref(), Ok(&gates));
     assert_eq!(
         map(&text(&TOFFOLI)),
         Ok(Circuit {
-            text: text(&answer),
+            text: text(&TOFFOLI_MAPPED),
             gates
         })
     );
@@ -69,14 +79,17 @@ fn toffoli() {
 
 #[test]
 fn quotes() {
-    let count = |lines: &[&str]| quote(&text(lines)).map(|gates| gates.len());
-    assert_eq!(count(&TOFFOLI), Ok(5));
-    assert_eq!(
-        count(&["(lines 3)", "(mct (0 1) 2)", "(mct (0 1) 2)"]),
-        Ok(9)
-    );
-    assert_eq!(count(&["(lines 5)", "(mct (0 1 2) 3)"]), Ok(14));
-    assert_eq!(count(&["(lines 32)"]), Ok(0));
+    let cases: [(&[&str], usize); 4] = [
+        (&TOFFOLI, 5),
+        (&["(lines 3)", "(mct (0 1) 2)", "(mct (0 1) 2)"], 9),
+        (&["(lines 5)", "(mct (0 1 2) 3)"], 14),
+        (&["(lines 32)"], 0),
+    ];
+    for (lines, count) in cases {
+        let gates = quoted(&text(lines)).unwrap();
+        assert_eq!(gates.len(), count);
+        assert_eq!(map(&text(lines)).unwrap().gates, gates);
+    }
 }
 
 #[test]
@@ -132,7 +145,7 @@ fn reductions() {
 fn refusals() {
     let no_spare = text(&["(lines 4)", "(mct (0 1 2) 3)"]);
     assert_eq!(map(&no_spare), refused(Number::NoSpare, 2));
-    assert_eq!(quote(&no_spare), refused(Number::NoSpare, 2));
+    assert_eq!(quoted(&no_spare), refused(Number::NoSpare, 2));
     let wide = text(&[
         "(lines 17)",
         "(mct (0 1 2 3 4 5 6 7 8 9 10 11 12 13 14 15) 16)",
@@ -254,32 +267,66 @@ fn twelfth_wide_gate() {
     assert_eq!(map(&text(&lines(12))), refused(Number::TooMany, 13));
 }
 
+/// A job over one text, on lent memory.
+type Job = fn(&[u8], &mut [u16], &mut [u8]) -> Result<Counts, Refusal>;
+
 #[test]
 fn lent_memory() {
     let toffoli = text(&TOFFOLI);
-    let written = map(&toffoli).unwrap().text.len();
+    let mapped = text(&TOFFOLI_MAPPED);
+    let bytes = mapped.len();
 
-    let (mut list, mut answer) = (vec![7; 4100], vec![7; written + 1]);
-    assert_eq!(lent::map(&toffoli, &mut list, &mut answer), Ok(written));
+    // map and reduce give this list the same counts, list and text.
+    for (job, given) in [(lent::map as Job, &toffoli), (lent::reduce, &mapped)] {
+        let (mut list, mut answer) = (vec![7; 4100], vec![7; bytes + 1]);
+        let counts = job(given, &mut list, &mut answer);
+        assert_eq!(counts, Ok(Counts { gates: 5, bytes }));
+        assert_eq!(list[..5], [269, 273, 138, 275, 138]);
+        assert_eq!(list[5..], [2; 4095]);
+        assert_eq!(lent::gate(list[5]), Some(Gate::Not { target: 0 }));
+        assert_eq!(answer[..bytes], mapped);
+        assert_eq!(answer[bytes..], [7]);
+
+        for room in [1, bytes - 1] {
+            let (mut list, mut answer) = (vec![7; 4096], vec![7; room]);
+            let short = job(given, &mut list, &mut answer);
+            assert_eq!(short, refused(Number::ShortAnswer, 0));
+            assert_eq!(list, [2; 4096]);
+            assert_eq!(answer, vec![7; room]);
+        }
+    }
+}
+
+#[test]
+fn an_answer_area_of_length_0() {
+    // What a list of this length, full of 7, holds after the call.
+    let left = |job: Job, text: &[u8], records| {
+        let mut list = vec![7; records];
+        (job(text, &mut list, &mut []), list)
+    };
+    let toffoli = text(&TOFFOLI);
+
+    // map only quotes, and leaves the list that it leaves with any area.
+    let (quoted, list) = left(lent::map, &toffoli, 4100);
+    assert_eq!(quoted, Ok(Counts { gates: 5, bytes: 0 }));
     assert_eq!(list[..5], [269, 273, 138, 275, 138]);
     assert_eq!(list[5..], [2; 4095]);
-    assert_eq!(lent::gate(list[5]), Some(Gate::Not { target: 0 }));
-    assert_eq!(answer[written..], [7]);
+    let no_gates = left(lent::map, b"(lines 3)\n", 4096);
+    assert_eq!(no_gates, (Ok(Counts { gates: 0, bytes: 0 }), vec![2; 4096]));
 
-    let (mut list, mut answer) = (vec![7; 4096], vec![7; written - 1]);
-    assert_eq!(
-        lent::map(&toffoli, &mut list, &mut answer),
-        refused(Number::ShortAnswer, 0)
-    );
-    assert_eq!(list, [2; 4096]);
-    assert_eq!(answer, vec![7; written - 1]);
+    // It refuses what it refuses with any area.
+    let short = left(lent::map, &toffoli, 4095);
+    assert_eq!(short, (refused(Number::ShortList, 0), vec![7; 4095]));
+    let long = left(lent::map, &[b'('; 60001], 4096);
+    assert_eq!(long, (refused(Number::Overlong, 0), vec![7; 4096]));
+    let empty = left(lent::map, b"", 4096);
+    assert_eq!(empty, (refused(Number::Malformed, 1), vec![2; 4096]));
 
-    let mut list = [7; 4095];
-    assert_eq!(
-        lent::quote(&toffoli, &mut list),
-        refused(Number::ShortList, 0)
-    );
-    assert_eq!(list, [7; 4095]);
+    // For reduce such an area is too short, after everything else.
+    let reduced = left(lent::reduce, &text(&TOFFOLI_MAPPED), 4096);
+    assert_eq!(reduced, (refused(Number::ShortAnswer, 0), vec![2; 4096]));
+    let cascade = left(lent::reduce, &toffoli, 4096);
+    assert_eq!(cascade, (refused(Number::Malformed, 2), vec![2; 4096]));
 }
 
 #[test]

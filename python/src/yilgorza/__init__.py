@@ -13,9 +13,10 @@ surrogate for its three; no character outside ASCII is in form, so a line that h
 one is turned away as malformed. A file is best read as bytes: opened as a text
 its line ends are changed, and bytes of it may be.
 
-The jobs are called by the module's name, yilgorza.map, yilgorza.reduce,
+The functions are called by the module's name, yilgorza.map, yilgorza.reduce,
 yilgorza.quote and yilgorza.compare: `from yilgorza import *` brings the types
-alone, so that it hides neither the built-in map nor functools.reduce.
+alone, so that it hides neither the built-in map nor functools.reduce. One call of
+map gives the gates and the text; quote gives the gates alone.
 
 Calls may run at the same time in any number of threads: each lends areas of its
 own, and the interpreter runs other threads meanwhile. The shared object is loaded
@@ -29,7 +30,7 @@ from dataclasses import dataclass
 from enum import Enum, IntEnum
 from functools import lru_cache
 from pathlib import Path
-from typing import Iterable, Optional, Tuple, Union
+from typing import Optional, Tuple, Union
 
 from . import _library
 
@@ -195,10 +196,10 @@ def reduce(text: Text) -> Circuit:
 
 
 def quote(text: Text) -> Quote:
-    """Quotes the gate count of a cascade text; TurnedAway if it is refused."""
-    records = _library.GateList()
-    count = _counted(*_library.run("quote", _bytes(text), records))
-    return Quote(count, _gates(records[:count]))
+    """Quotes the gate count of a cascade text, which is map without the circuit text;
+    TurnedAway if it is refused."""
+    gates, _ = _answered("map", text, _library.NoAnswerArea())
+    return Quote(len(gates), gates)
 
 
 def compare(first: Text, second: Text) -> Ordering:
@@ -215,22 +216,33 @@ def compare(first: Text, second: Text) -> Ordering:
     The reduced lists themselves are what reduce gives.
     """
     lists = _library.GateList(), _library.GateList()
-    number, line, text, count = _library.run_several(
+    number, line, text, found = _library.run(
         "compare", _bytes(first), lists[0], _bytes(second), lists[1]
     )
-    found = _counted(number, line, count, text)
+    _accept(number, line, text)
     if found > 2:
         raise InternalError(f"yilgorza: there is no order {found}")
     return Ordering(found - 1)
 
 
 def _written(job: str, text: Text) -> Circuit:
-    records = _library.GateList()
     answer = _library.AnswerArea()
-    count = _counted(*_library.run(job, _bytes(text), records, answer))
-    written = memoryview(answer)[:count].tobytes()
+    gates, length = _answered(job, text, answer)
+    written = memoryview(answer)[:length].tobytes()
     # Line 1 is no gate, and each later line is one.
-    return Circuit(written, _gates(records[: written.count(b"\n") - 1]))
+    if written.count(b"\n") != len(gates) + 1:
+        raise InternalError(f"yilgorza: the answer has not {len(gates)} gates")
+    return Circuit(written, gates)
+
+
+def _answered(
+    job: str, text: Text, answer: _library.Lent
+) -> Tuple[Tuple[Gate, ...], int]:
+    """The gates that a job over one text gives, and the bytes that it writes."""
+    records = _library.GateList()
+    number, line, gates, length = _library.run(job, _bytes(text), records, answer)
+    _accept(number, line)
+    return tuple(_gate(record) for record in records[:gates]), length
 
 
 def _bytes(text: Text) -> bytes:
@@ -247,16 +259,12 @@ def _bytes(text: Text) -> bytes:
         ) from None
 
 
-def _counted(number: int, line: int, count: int, text: Optional[int] = None) -> int:
+def _accept(number: int, line: int, text: Optional[int] = None) -> None:
     if number == 0:
-        return count
+        return
     if number not in _WORDS:
         raise InternalError(f"yilgorza: there is no refusal {number}")
     raise TurnedAway(number, line, text)
-
-
-def _gates(records: Iterable[int]) -> Tuple[Gate, ...]:
-    return tuple(_gate(record) for record in records)
 
 
 @lru_cache(maxsize=None)

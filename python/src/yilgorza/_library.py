@@ -16,8 +16,8 @@ ANSWER_BYTES = 45067
 
 GateList = ctypes.c_uint16 * LIST_RECORDS
 AnswerArea = ctypes.c_uint8 * ANSWER_BYTES
-_Outcome = ctypes.c_uint64 * 3
-_SeveralOutcome = ctypes.c_uint64 * 4
+NoAnswerArea = ctypes.c_uint8 * 0
+_Outcome = ctypes.c_uint64 * 4
 _GateParts = ctypes.c_uint8 * 3
 
 _TEXT: List[Any] = [ctypes.c_char_p, ctypes.c_size_t]
@@ -29,7 +29,6 @@ _OUTCOME: List[Any] = [ctypes.POINTER(ctypes.c_uint64)]
 _FUNCTIONS: Dict[str, List[Any]] = {
     "map": _TEXT + _LIST + _ANSWER + _OUTCOME,
     "reduce": _TEXT + _LIST + _ANSWER + _OUTCOME,
-    "quote": _TEXT + _LIST + _OUTCOME,
     "compare": _TEXT + _LIST + _TEXT + _LIST + _OUTCOME,
     "gate": [ctypes.c_uint16, ctypes.POINTER(ctypes.c_uint8)],
 }
@@ -39,27 +38,14 @@ _FUNCTIONS: Dict[str, List[Any]] = {
 Lent = Union[bytes, "ctypes.Array[Any]"]
 
 
-def run(job: str, *lent: Lent) -> Tuple[int, int, int]:
-    """Runs a job over one text, on the text and the areas lent to it: number, line
-    and count."""
+def run(job: str, *lent: Lent) -> Tuple[int, int, int, int]:
+    """Runs a job on its texts and the areas lent to it, in its order: of one text
+    number, line, gates and bytes, of several number, line, text and count."""
     outcome = _Outcome()
-    _call(job, lent, outcome)
-    number, line, count = outcome
-    return number, line, count
-
-
-def run_several(job: str, *lent: Lent) -> Tuple[int, int, int, int]:
-    """Runs a job over several texts, on the texts and the areas in its order:
-    number, line, text and count."""
-    outcome = _SeveralOutcome()
-    _call(job, lent, outcome)
-    number, line, text, count = outcome
-    return number, line, text, count
-
-
-def _call(job: str, lent: Tuple[Lent, ...], outcome: ctypes.Array[Any]) -> None:
     parts = [part for area in lent for part in (area, len(area))]
     _functions()[job](*parts, outcome)
+    first, second, third, fourth = outcome
+    return first, second, third, fourth
 
 
 def gate(record: int) -> Tuple[int, int, int]:

@@ -1,32 +1,51 @@
 //! The static library against the peer, on many thousands of texts: number,
-//! line and count, every record and byte lent, and what stands beside them.
+//! line, gates and bytes, every record and byte lent, and what stands beside
+//! them. What the papers say of an answer by themselves, and of the answers of one
+//! text with several areas, is asserted without the peer too.
 
 use crate::circuit::{self, Gate};
+use crate::known::{self, Known};
 use crate::random::Random;
 use crate::report::{shown, Report};
 use crate::subject::{call, read_record, Area};
 use crate::texts;
 use peer::{Job, Outcome};
 
-const JOBS: [Job; 3] = [Job::Map, Job::Reduce, Job::Quote];
-const NOT_0: u16 = 2;
+const JOBS: [Job; 2] = [Job::Map, Job::Reduce];
+/// The calls that are counted apart, and the numbers that each can return.
+const CALLS: [(&str, &[usize]); 4] = [
+    ("map", &[0, 1, 2, 3, 4, 5, 6, 7, 8, 9, 10]),
+    ("map, empty area", &[0, 1, 2, 3, 4, 5, 6, 7, 8, 9]),
+    ("reduce", &[0, 1, 2, 3, 4, 5, 9, 10]),
+    ("reduce, empty area", &[1, 2, 3, 4, 5, 9, 10]),
+];
+/// An answer area that has room for every answer, and one that has more.
+const LONGEST: [usize; 2] = [45_067, 50_000];
 
 type Part = fn(&mut Library);
 
 struct Library {
     report: Report,
     random: Random,
-    /// How often each number came up, for each job.
-    numbers: [[u64; 11]; 3],
+    /// How often each number came up, for each of the calls.
+    numbers: [[u64; 11]; CALLS.len()],
+}
+
+/// What the library gave in one case, and what it had to return.
+struct Given {
+    outcome: Outcome,
+    expected: Outcome,
+    list: Area<u16>,
 }
 
 pub fn run() -> Report {
     let mut library = Library {
         report: Report::new("library"),
         random: Random::seeded(20_240_601),
-        numbers: [[0; 11]; 3],
+        numbers: [[0; 11]; CALLS.len()],
     };
-    let parts: [(&str, Part); 9] = [
+    let parts: [(&str, Part); 10] = [
+        ("answer areas of every length", Library::every_area),
         ("every single change of small texts", Library::every_change),
         ("valid texts", Library::valid),
         ("damaged texts", Library::damaged),
@@ -50,27 +69,29 @@ pub fn run() -> Report {
             .report
             .case(cases > 0, || format!("{name}: no case ran"));
     }
-    println!("library: number     0     1     2     3     4     5     6     7     8     9    10");
-    for (job, numbers) in JOBS.iter().zip(library.numbers) {
-        let row: Vec<String> = numbers.iter().map(|times| format!("{times:5}")).collect();
-        println!(
-            "library: {:7}{}",
-            format!("{job:?}").to_lowercase(),
-            row.join(" ")
-        );
-    }
-    for number in 0..=10 {
-        let times: u64 = library.numbers.iter().map(|numbers| numbers[number]).sum();
-        library
-            .report
-            .case(times > 0, || format!("number {number} never came up"));
-    }
+    library.tell();
     library.report
 }
 
 impl Library {
+    /// Tells how often each number came up; one that never did, and one that the
+    /// call can't return but did, has failed.
+    fn tell(&mut self) {
+        println!("library: number                  0     1     2     3     4     5     6     7     8     9    10");
+        for ((call, possible), numbers) in CALLS.into_iter().zip(self.numbers) {
+            let row: Vec<String> = numbers.iter().map(|times| format!("{times:5}")).collect();
+            println!("library: {call:20}{}", row.join(" "));
+            for (number, times) in numbers.into_iter().enumerate() {
+                self.report
+                    .case((times > 0) == possible.contains(&number), || {
+                        format!("{call}: number {number} came up {times} times")
+                    });
+            }
+        }
+    }
+
     /// One case: the same lent areas to both, everything compared.
-    fn case(&mut self, job: Job, text: &[u8], list_len: usize, answer_len: usize) -> Outcome {
+    fn case(&mut self, job: Job, text: &[u8], list_len: usize, answer_len: usize) -> Given {
         // Junk that is no record of a gate.
         let junk = 5_000 + (self.random.next() % 60_000) as u16;
         let junk_byte = self.random.next() as u8;
@@ -81,12 +102,9 @@ impl Library {
 
         let mut expected_list = vec![junk; list_len];
         let mut expected_answer = vec![junk_byte; answer_len];
-        let expected = match job {
-            Job::Map => peer::map(text, &mut expected_list, &mut expected_answer),
-            Job::Reduce => peer::reduce(text, &mut expected_list, &mut expected_answer),
-            Job::Quote => peer::quote(text, &mut expected_list),
-        };
-        if let Some(times) = self.numbers[job as usize].get_mut(got.number as usize) {
+        let expected = job.run(text, &mut expected_list, &mut expected_answer);
+        let call = 2 * (job as usize) + usize::from(answer_len == 0);
+        if let Some(times) = self.numbers[call].get_mut(got.number as usize) {
             *times += 1;
         }
         let wrong = if got != expected {
@@ -102,6 +120,8 @@ impl Library {
             && text_area.guards_hold(junk_byte))
         {
             "the memory beside an area"
+        } else if !counts_hold(job, got, answer.inside()) {
+            "what the papers say of gates and bytes"
         } else {
             ""
         };
@@ -117,7 +137,22 @@ impl Library {
                 shown(text)
             )
         });
-        expected
+        Given {
+            outcome: got,
+            expected,
+            list,
+        }
+    }
+
+    /// The answers of one text, by the same job, on lists of one length.
+    fn agree(&mut self, job: Job, text: &[u8], given: &[Given]) {
+        self.report.case(differ_by_area_only(given), || {
+            let outcomes: Vec<Outcome> = given.iter().map(|given| given.outcome).collect();
+            format!(
+                "{job:?} with several answer areas: {outcomes:?}, or another list; text {}",
+                shown(text)
+            )
+        });
     }
 
     fn list_len(&mut self) -> usize {
@@ -130,49 +165,80 @@ impl Library {
         }
     }
 
-    /// A text to all jobs, with some lengths of list and answer area.
+    /// A text to one job with an empty answer area and with another.
+    fn with_and_without(&mut self, job: Job, text: &[u8], list_len: usize, answer_len: usize) {
+        let given = [answer_len, 0].map(|length| self.case(job, text, list_len, length));
+        self.agree(job, text, &given);
+    }
+
+    /// A text to both jobs, with some lengths of list and answer area.
     fn any_job(&mut self, text: &[u8]) {
         for job in JOBS {
             let list_len = self.list_len();
-            let answer_len = self.random.pick(&[0, 1, 9, 10, 50, 60, 200, 1_000, 50_000]);
-            self.case(job, text, list_len, answer_len);
+            let answer_len = self.random.pick(&[1, 9, 10, 50, 60, 200, 1_000, 50_000]);
+            self.with_and_without(job, text, list_len, answer_len);
         }
     }
 
-    /// A text to one job, with the answer area fitting, one short, empty,
-    /// larger by one and much larger.
+    /// A text to one job, with the answer area longest, empty, of one byte and,
+    /// where there is an answer, one short, fitting, larger by one and shorter.
     fn areas(&mut self, job: Job, text: &[u8]) {
         let list_len = self.list_len();
-        if job == Job::Quote {
-            self.case(job, text, list_len, 0);
-            return;
-        }
-        let outcome = self.case(job, text, list_len, 50_000);
-        if outcome.number == 0 {
-            let fitting = outcome.count as usize;
+        let longest = self.random.pick(&LONGEST);
+        let mut given = vec![self.case(job, text, list_len, longest)];
+        let mut lengths = vec![0, 1];
+        if given[0].expected.number == 0 {
+            let fitting = given[0].expected.bytes as usize;
             let shorter = self.random.below(fitting);
-            for answer_len in [fitting, fitting - 1, fitting + 1, 0, shorter] {
-                self.case(job, text, 4_096, answer_len);
+            lengths.extend([fitting - 1, fitting, fitting + 1, shorter]);
+        }
+        for answer_len in lengths {
+            given.push(self.case(job, text, list_len, answer_len));
+        }
+        self.agree(job, text, &given);
+    }
+
+    /// Texts whose answer is known, on whole and short lists: every answer area up
+    /// to some length, those around the answer's own, and the longest.
+    fn every_area(&mut self) {
+        for known in known::all() {
+            let fitting = known.ample.bytes as usize;
+            let most = if known.text.len() < 1_000 { 140 } else { 2 };
+            let around = [fitting.saturating_sub(1), fitting, fitting + 1];
+            for list_len in [4_096, 4_097, 4_095, 0] {
+                let lengths = (0..=most).chain(around).chain(LONGEST);
+                let given: Vec<Given> = lengths
+                    .map(|answer_len| self.known(&known, list_len, answer_len))
+                    .collect();
+                self.agree(known.job, &known.text, &given);
             }
         }
     }
 
-    fn cascade_areas(&mut self, text: &[u8]) {
-        self.areas(Job::Map, text);
-        self.areas(Job::Quote, text);
+    fn known(&mut self, known: &Known, list_len: usize, answer_len: usize) -> Given {
+        let given = self.case(known.job, &known.text, list_len, answer_len);
+        let (got, expected) = (given.outcome, known.outcome(list_len, answer_len));
+        self.report.case(got == expected, || {
+            format!(
+                "{:?}, list of {list_len}, answer area of {answer_len}: got {got:?}, \
+                 the papers say {expected:?}; text {}",
+                known.job,
+                shown(&known.text)
+            )
+        });
+        given
     }
 
     fn every_change(&mut self) {
         for text in texts::SMALL {
             for changed in texts::every_change(text.as_bytes()) {
-                let cascade = text.contains("mct");
-                let answer_len = self.random.pick(&[100, 300, 10]);
-                if cascade {
-                    self.case(Job::Map, &changed, 4_096, answer_len);
-                    self.case(Job::Quote, &changed, 4_096, 0);
+                let job = if text.contains("mct") {
+                    Job::Map
                 } else {
-                    self.case(Job::Reduce, &changed, 4_096, answer_len);
-                }
+                    Job::Reduce
+                };
+                let answer_len = self.random.pick(&[100, 300, 10]);
+                self.with_and_without(job, &changed, 4_096, answer_len);
             }
         }
         self.any_job(b"");
@@ -194,7 +260,7 @@ impl Library {
             self.areas(Job::Reduce, &text);
             let most = if case % 8 == 0 { 1_500 } else { 150 };
             let text = texts::cascade(&mut self.random, 12, most);
-            self.cascade_areas(&text);
+            self.areas(Job::Map, &text);
         }
     }
 
@@ -251,7 +317,7 @@ impl Library {
             for count in 255..=258 {
                 let text = texts::cascade_of_lines(&mut self.random, count);
                 self.any_job(&text);
-                self.cascade_areas(&text);
+                self.areas(Job::Map, &text);
                 let last = text[..text.len() - 1]
                     .iter()
                     .rposition(|&b| b == b'\n')
@@ -271,7 +337,7 @@ impl Library {
             for total in 4_090..=4_100 {
                 let text = texts::cascade_of_total(&mut self.random, total);
                 self.any_job(&text);
-                self.case(Job::Map, &text, 4_096, 50_000);
+                self.areas(Job::Map, &text);
                 let text = texts::damaged(&mut self.random, &text);
                 self.any_job(&text);
             }
@@ -290,7 +356,7 @@ impl Library {
         ] {
             let text =
                 "(lines 17)\n".to_string() + &wide.repeat(count) + &"(mct () 3)\n".repeat(rest);
-            self.cascade_areas(text.as_bytes());
+            self.areas(Job::Map, text.as_bytes());
             self.any_job(text.as_bytes());
         }
         // Every number of controls on every number of lines.
@@ -300,7 +366,7 @@ impl Library {
                 for target in [k, lines.saturating_sub(1), lines] {
                     let text =
                         format!("(lines {lines})\n(mct ({}) {target})\n", controls.join(" "));
-                    self.cascade_areas(text.as_bytes());
+                    self.areas(Job::Map, text.as_bytes());
                 }
             }
         }
@@ -309,7 +375,7 @@ impl Library {
             for count in 4_095..=4_098 {
                 let text = texts::circuit_of(&mut self.random, count);
                 self.any_job(&text);
-                self.case(Job::Reduce, &text, 4_096, 50_000);
+                self.areas(Job::Reduce, &text);
                 let last = text[..text.len() - 1]
                     .iter()
                     .rposition(|&b| b == b'\n')
@@ -348,7 +414,7 @@ impl Library {
             self.any_job(&damaged);
             let total = self.random.between(most / 2, most);
             let text = texts::cascade_of_total(&mut self.random, total);
-            self.cascade_areas(&text);
+            self.areas(Job::Map, &text);
             let damaged = texts::damaged(&mut self.random, &text);
             self.any_job(&damaged);
         }
@@ -369,7 +435,7 @@ impl Library {
                 let outcome = call(Job::Reduce, &Area::holding(text, 0), &mut list, &mut answer);
                 (outcome, list.inside().to_vec(), answer.inside().to_vec())
             });
-            let gates = lists[0].1.iter().filter(|&&record| record != NOT_0).count();
+            let gates = lists[0].0.gates;
             self.report
                 .case(lists[0] == lists[1] && lists[0].0.number == 0, || {
                     format!(
@@ -410,4 +476,38 @@ impl Library {
             });
         }
     }
+}
+
+/// What the papers say of gates and bytes, whatever the text: a refusal has 0 for
+/// both, a text that is written has a line for each gate and line 1; an empty area
+/// is never short for map, which writes nothing to it, and always for reduce.
+fn counts_hold(job: Job, outcome: Outcome, answer: &[u8]) -> bool {
+    let Outcome {
+        number,
+        gates,
+        bytes,
+        ..
+    } = outcome;
+    let lines = |text: &[u8]| text.iter().filter(|&&byte| byte == b'\n').count() as u64;
+    match (number, job, answer.len()) {
+        (0, Job::Map, 0) => bytes == 0,
+        (0, Job::Reduce, 0) | (10, Job::Map, 0) => false,
+        (0, _, _) => answer
+            .get(..bytes as usize)
+            .is_some_and(|text| lines(text) == gates + 1),
+        _ => (gates, bytes) == (0, 0),
+    }
+}
+
+/// Whether answers of one text differ only as their answer areas make them: a
+/// refusal by rules 1 to 9 is the same for all, and where the text is accepted,
+/// its gates and its list are.
+fn differ_by_area_only(given: &[Given]) -> bool {
+    if given.iter().any(|g| (1..=9).contains(&g.outcome.number)) {
+        return given.iter().all(|g| g.outcome == given[0].outcome);
+    }
+    let accepted: Vec<&Given> = given.iter().filter(|g| g.outcome.number == 0).collect();
+    accepted.windows(2).all(|two| {
+        two[0].outcome.gates == two[1].outcome.gates && two[0].list.inside() == two[1].list.inside()
+    })
 }

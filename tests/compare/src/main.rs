@@ -14,6 +14,7 @@
 mod chain;
 mod circuit;
 mod files;
+mod known;
 mod library;
 mod pairs;
 mod programs;

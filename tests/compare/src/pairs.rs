@@ -11,7 +11,7 @@ use crate::report::{shown, Report};
 use crate::subject::{compare, Area};
 use crate::texts;
 use peer::comparison::{self, Outcome};
-use peer::Job;
+use peer::Program;
 use std::cmp::Ordering;
 
 const LESS: u64 = 0;
@@ -296,7 +296,7 @@ impl Pairs {
         for _ in 0..8_000 {
             let lines = texts::some_lines(&mut self.random);
             let text = circuit::text(lines, &self.gates(lines, 24));
-            let reduced = peer::program_answer(Job::Reduce, &text);
+            let reduced = peer::program_answer(Program::Reduce, &text);
             let ends: Vec<usize> = (1..=reduced.len())
                 .filter(|&end| reduced[end - 1] == b'\n')
                 .collect();

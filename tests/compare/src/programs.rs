@@ -6,32 +6,32 @@ use crate::files;
 use crate::random::Random;
 use crate::report::{shown, Report};
 use crate::texts;
-use peer::Job;
+use peer::Program;
 use std::ffi::OsString;
 use std::io::{Read, Write};
 use std::path::Path;
 use std::process::{Child, Command, ExitStatus, Stdio};
 
-const JOBS: [(Job, &str); 3] = [
-    (Job::Map, "map"),
-    (Job::Reduce, "reduce"),
-    (Job::Quote, "quote"),
+const PROGRAMS: [(Program, &str); 3] = [
+    (Program::Map, "map"),
+    (Program::Reduce, "reduce"),
+    (Program::Quote, "quote"),
 ];
 
 pub fn run(directory: &Path, scratch: &Path) -> Report {
     let mut report = Report::new("programs");
     let mut random = Random::seeded(4_711);
     let mut numbers = [0u64; 11];
-    for (job, name) in JOBS {
+    for (program, name) in PROGRAMS {
         let before = report.passed + report.failed;
-        for text in all_texts(&mut random, job) {
+        for text in all_texts(&mut random, program) {
             // Every fourth text comes in pieces.
             let piece = if random.one_in(4) {
                 random.between(1, 1 + text.len() / 3)
             } else {
                 text.len().max(1)
             };
-            let expected = peer::program_answer(job, &text);
+            let expected = peer::program_answer(program, &text);
             let got = Written::by(&directory.join(name), &[], &text, piece)
                 .and_then(|written| written.answer());
             let number = match expected.strip_prefix(b"(turned-away ") {
@@ -68,8 +68,8 @@ pub fn run(directory: &Path, scratch: &Path) -> Report {
     report
 }
 
-fn all_texts(random: &mut Random, job: Job) -> Vec<Vec<u8>> {
-    let cascade = job != Job::Reduce;
+fn all_texts(random: &mut Random, program: Program) -> Vec<Vec<u8>> {
+    let cascade = program != Program::Reduce;
     let mut texts: Vec<Vec<u8>> = texts::SMALL
         .iter()
         .map(|text| text.as_bytes().to_vec())

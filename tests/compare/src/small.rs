@@ -62,11 +62,12 @@ fn all_circuits(report: &mut Report) {
             );
             let passed = outcome.number == 0
                 && outcome.line == 0
-                && outcome.count as usize == expected_text.len()
+                && outcome.gates as usize == expected.len()
+                && outcome.bytes as usize == expected_text.len()
                 && answer.inside()[..expected_text.len()] == expected_text
                 && holds(&list, &records(&expected));
             report.case(passed, || {
-                let written = (outcome.count as usize).min(200);
+                let written = (outcome.bytes as usize).min(200);
                 format!(
                     "{} gives {outcome:?} {}, expected {}",
                     shown(&circuit_text),

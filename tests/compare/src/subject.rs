@@ -3,7 +3,7 @@
 #[path = "../../../examples/rust/src/declared.rs"]
 mod declared;
 
-use declared::{yilgorza_compare, yilgorza_gate, yilgorza_map, yilgorza_quote, yilgorza_reduce};
+use declared::{yilgorza_compare, yilgorza_gate, yilgorza_map, yilgorza_reduce};
 use peer::{comparison, Job, Outcome};
 
 /// How many records or bytes before and after each area are watched.
@@ -45,35 +45,39 @@ impl<T: Copy + PartialEq> Area<T> {
     }
 }
 
-/// Calls one of the C functions over one text. `answer` is left alone by quote.
+/// Calls one of the C functions over one text.
 pub fn call(job: Job, text: &Area<u8>, list: &mut Area<u16>, answer: &mut Area<u8>) -> Outcome {
-    // One more word before and after, to see writes beside the three.
-    let mut outcome = [u64::MAX; 5];
+    let function = match job {
+        Job::Map => yilgorza_map,
+        Job::Reduce => yilgorza_reduce,
+    };
+    // One more word before and after, to see writes beside the four.
+    let mut outcome = [u64::MAX; 6];
     let text = text.inside();
     let list = list.inside_mut();
     let answer = answer.inside_mut();
     // The areas are live, of the lengths given, and don't overlap.
     unsafe {
-        let (text, text_len) = (text.as_ptr(), text.len());
-        let (list, list_len) = (list.as_mut_ptr(), list.len());
-        let (answer, answer_len) = (answer.as_mut_ptr(), answer.len());
-        let result = outcome.as_mut_ptr().add(1);
-        match job {
-            Job::Map => yilgorza_map(text, text_len, list, list_len, answer, answer_len, result),
-            Job::Reduce => {
-                yilgorza_reduce(text, text_len, list, list_len, answer, answer_len, result)
-            }
-            Job::Quote => yilgorza_quote(text, text_len, list, list_len, result),
-        }
+        function(
+            text.as_ptr(),
+            text.len(),
+            list.as_mut_ptr(),
+            list.len(),
+            answer.as_mut_ptr(),
+            answer.len(),
+            outcome.as_mut_ptr().add(1),
+        );
     }
+    let [before, number, line, gates, bytes, after] = outcome;
     assert!(
-        outcome[0] == u64::MAX && outcome[4] == u64::MAX,
+        before == u64::MAX && after == u64::MAX,
         "a word beside the outcome was written"
     );
     Outcome {
-        number: outcome[1],
-        line: outcome[2],
-        count: outcome[3],
+        number,
+        line,
+        gates,
+        bytes,
     }
 }
 

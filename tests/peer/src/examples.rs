@@ -5,54 +5,80 @@ use super::*;
 const JUNK: u16 = 0xbeef;
 const NOT_0: u16 = 2;
 
-/// Runs a job on whole lent areas and checks what holds of them in every case.
-fn run(job: Job, text: &str) -> (Outcome, Vec<u8>, Vec<u16>) {
+/// Runs a job on lent areas, the answer area of this length, and checks what
+/// holds of them in every case.
+fn run(job: Job, text: &str, answer_len: usize) -> (Outcome, Vec<u8>, Vec<u16>) {
     let mut list = vec![JUNK; 5_000];
-    let mut answer = vec![b'?'; 50_000];
-    let outcome = match job {
-        Job::Map => map(text.as_bytes(), &mut list, &mut answer),
-        Job::Reduce => reduce(text.as_bytes(), &mut list, &mut answer),
-        Job::Quote => quote(text.as_bytes(), &mut list),
+    let mut answer = vec![b'?'; answer_len];
+    let outcome = job.run(text.as_bytes(), &mut list, &mut answer);
+    let rest = match outcome.number {
+        1 | 2 => JUNK,
+        _ => NOT_0,
     };
-    let written = if job == Job::Quote {
-        0
-    } else {
-        outcome.count as usize
-    };
-    assert!(answer[written..].iter().all(|&byte| byte == b'?'));
-    answer.truncate(written);
+    let (gates, bytes) = (outcome.gates as usize, outcome.bytes as usize);
+    assert!(list[gates..].iter().all(|&record| record == rest));
+    assert!(answer[bytes..].iter().all(|&byte| byte == b'?'));
+    list.truncate(gates);
+    answer.truncate(bytes);
     (outcome, answer, list)
 }
 
+fn accepted(gates: u64, bytes: u64) -> Outcome {
+    Outcome {
+        number: 0,
+        line: 0,
+        gates,
+        bytes,
+    }
+}
+
+/// A refusal by rule 1, 2 or 10.
+fn without_line(number: u64) -> Outcome {
+    Outcome {
+        number,
+        line: 0,
+        gates: 0,
+        bytes: 0,
+    }
+}
+
+/// The answer text and the gates of an accepted text.
+fn answered(job: Job, text: &str) -> (String, u64) {
+    let (outcome, answer, list) = run(job, text, 50_000);
+    let answer = String::from_utf8(answer).unwrap();
+    let gates = answer.lines().count() as u64 - 1;
+    assert_eq!(outcome, accepted(gates, answer.len() as u64));
+    let circuit = reader::read(Kind::Circuit, answer.as_bytes()).unwrap();
+    assert!(circuit.gates.iter().map(|gate| gate.number()).eq(list));
+    (answer, gates)
+}
+
 fn mapped(text: &str) -> String {
-    let (outcome, answer, _) = run(Job::Map, text);
-    assert_eq!((outcome.number, outcome.line), (0, 0));
-    String::from_utf8(answer).unwrap()
+    answered(Job::Map, text).0
 }
 
 fn reduced_to(text: &str, expected: &str) {
-    let (outcome, answer, list) = run(Job::Reduce, text);
-    assert_eq!((outcome.number, outcome.line), (0, 0));
-    assert_eq!(String::from_utf8(answer).unwrap(), expected);
-    let gates = expected.lines().count() - 1;
-    assert!(list[gates..].iter().all(|&record| record == NOT_0));
+    assert_eq!(answered(Job::Reduce, text).0, expected);
 }
 
+/// The gates that map counts with an empty area, which have to be those that it
+/// gives with any other.
 fn quoted(text: &str) -> u64 {
-    let (outcome, _, list) = run(Job::Quote, text);
-    assert_eq!((outcome.number, outcome.line), (0, 0));
-    assert!(list[outcome.count as usize..]
-        .iter()
-        .all(|&record| record == NOT_0));
-    outcome.count
+    let (outcome, _, list) = run(Job::Map, text, 0);
+    assert_eq!(outcome, accepted(outcome.gates, 0));
+    assert_eq!(answered(Job::Map, text).1, outcome.gates);
+    assert_eq!(run(Job::Map, text, 50_000).2, list);
+    outcome.gates
 }
 
+/// The number and line of a text that is refused whatever area is lent.
 fn refused(job: Job, text: &str) -> (u64, u64) {
-    let (outcome, _, list) = run(job, text);
+    let (outcome, _, _) = run(job, text, 50_000);
     assert_ne!(outcome.number, 0);
-    assert_eq!(outcome.count, 0);
-    let rest = if outcome.number <= 2 { JUNK } else { NOT_0 };
-    assert!(list.iter().all(|&record| record == rest));
+    assert_eq!((outcome.gates, outcome.bytes), (0, 0));
+    for answer_len in [0, 1, 9] {
+        assert_eq!(run(job, text, answer_len).0, outcome);
+    }
     (outcome.number, outcome.line)
 }
 
@@ -67,9 +93,15 @@ fn one_mct_of_two_controls() {
     let text = "(lines 3)\n(mct (0 1) 2)\n";
     let answer = "(lines 3)\n(v 0 2)\n(v 1 2)\n(cn 0 1)\n(vp 1 2)\n(cn 0 1)\n";
     assert_eq!(mapped(text), answer);
-    assert_eq!(program_answer(Job::Map, text.as_bytes()), answer.as_bytes());
+    assert_eq!(
+        program_answer(Program::Map, text.as_bytes()),
+        answer.as_bytes()
+    );
     assert_eq!(quoted(text), 5);
-    assert_eq!(program_answer(Job::Quote, text.as_bytes()), b"(quote 5)\n");
+    assert_eq!(
+        program_answer(Program::Quote, text.as_bytes()),
+        b"(quote 5)\n"
+    );
 }
 
 #[test]
@@ -84,13 +116,14 @@ fn three_controls_and_the_spare_line() {
     assert_eq!(circuit.gates.len(), 16);
     assert_eq!(circuit.gates[0], Gate::powered(1, 4, 3));
     assert_eq!(quoted(text), 14);
-    for job in [Job::Map, Job::Quote] {
-        assert_eq!(refused(job, "(lines 4)\n(mct (0 1 2) 3)\n"), (8, 2));
+    let no_spare = "(lines 4)\n(mct (0 1 2) 3)\n";
+    assert_eq!(refused(Job::Map, no_spare), (8, 2));
+    for program in [Program::Map, Program::Quote] {
+        assert_eq!(
+            program_answer(program, no_spare.as_bytes()),
+            b"(turned-away 8 2)\n"
+        );
     }
-    assert_eq!(
-        program_answer(Job::Map, b"(lines 4)\n(mct (0 1 2) 3)\n"),
-        b"(turned-away 8 2)\n"
-    );
 }
 
 #[test]
@@ -131,9 +164,7 @@ fn expansions_past_the_limit() {
     assert_eq!(circuit.gates.len(), 4_092);
     assert!(quoted(&text) <= 4_092);
     text += &mct(15, 15);
-    for job in [Job::Map, Job::Quote] {
-        assert_eq!(refused(job, &text), (9, 13));
-    }
+    assert_eq!(refused(Job::Map, &text), (9, 13));
 }
 
 #[test]
@@ -155,15 +186,11 @@ fn counts_of_the_expansion() {
 
 #[test]
 fn refusals_of_the_examples() {
-    for job in [Job::Map, Job::Quote] {
-        assert_eq!(
-            refused(job, &("(lines 17)\n".to_string() + &mct(16, 16))),
-            (7, 2)
-        );
-    }
-    for job in [Job::Map, Job::Reduce, Job::Quote] {
-        let (outcome, _, _) = run(job, "(lines 32)\n");
-        assert_eq!((outcome.number, outcome.line), (0, 0));
+    let wide = "(lines 17)\n".to_string() + &mct(16, 16);
+    assert_eq!(refused(Job::Map, &wide), (7, 2));
+    for job in [Job::Map, Job::Reduce] {
+        let (outcome, _, _) = run(job, "(lines 32)\n", 50_000);
+        assert_eq!(outcome, accepted(0, 11));
         assert_eq!(refused(job, "(lines 33)\n"), (4, 1));
         assert_eq!(refused(job, &"x".repeat(60_001)), (1, 0));
         assert_eq!(refused(job, &"x".repeat(60_000)), (3, 1));
@@ -198,37 +225,78 @@ fn the_order_of_the_rules() {
 }
 
 #[test]
+fn gates_and_bytes_of_the_starred_examples() {
+    gates_and_bytes(Job::Map, "(lines 3)\n(mct (0 1) 2)\n", 5, 53);
+    for (text, gates, bytes) in [
+        ("(lines 2)\n(v 0 1)\n(v 0 1)\n", 1, 19),
+        ("(lines 2)\n(cn 0 1)\n(v 0 1)\n", 1, 19),
+        ("(lines 2)\n(v 0 1)\n(vp 0 1)\n", 0, 10),
+        ("(lines 3)\n(cn 0 2)\n(cn 1 2)\n(cn 0 2)\n", 1, 19),
+        ("(lines 3)\n(cn 0 1)\n(cn 1 2)\n(cn 0 1)\n", 3, 37),
+        ("(lines 2)\n(cn 0 1)\n(not 1)\n", 2, 27),
+        ("(lines 2)\n(not 0)\n(cn 0 1)\n(not 0)\n", 3, 35),
+    ] {
+        gates_and_bytes(Job::Reduce, text, gates, bytes);
+    }
+}
+
+/// The same with every area that is long enough.
+fn gates_and_bytes(job: Job, text: &str, gates: u64, bytes: u64) {
+    let fitting = bytes as usize;
+    for answer_len in [fitting, fitting + 1, 50_000] {
+        assert_eq!(run(job, text, answer_len).0, accepted(gates, bytes));
+    }
+}
+
+#[test]
+fn an_empty_area_is_never_short_for_map() {
+    let text = "(lines 3)\n(mct (0 1) 2)\n";
+    assert_eq!(run(Job::Map, text, 0).0, accepted(5, 0));
+    for answer_len in 1..53 {
+        assert_eq!(run(Job::Map, text, answer_len).0, without_line(10));
+    }
+    assert_eq!(run(Job::Map, text, 53).0, accepted(5, 53));
+    let no_gates = "(lines 7)\n";
+    assert_eq!(run(Job::Map, no_gates, 0).0, accepted(0, 0));
+    assert_eq!(run(Job::Map, no_gates, 9).0, without_line(10));
+    assert_eq!(run(Job::Map, no_gates, 10).0, accepted(0, 10));
+}
+
+#[test]
+fn an_empty_area_is_short_for_reduce() {
+    for (text, bytes) in [("(lines 7)\n", 10), ("(lines 2)\n(v 0 1)\n(v 0 1)\n", 19)] {
+        for answer_len in 0..bytes {
+            assert_eq!(run(Job::Reduce, text, answer_len).0, without_line(10));
+        }
+        assert_eq!(run(Job::Reduce, text, bytes).0.number, 0);
+    }
+}
+
+#[test]
 fn lent_memory() {
     let text = b"(lines 2)\n(v 0 1)\n(v 0 1)\n";
     let answer_text = b"(lines 2)\n(cn 0 1)\n";
     let mut short = vec![JUNK; 4_095];
     let mut answer = vec![b'?'; 100];
-    let refused = |number| Outcome {
-        number,
-        line: 0,
-        count: 0,
-    };
-    assert_eq!(reduce(text, &mut short, &mut answer), refused(2));
-    assert_eq!(reduce(&[b'x'; 60_001], &mut short, &mut answer), refused(1));
+    assert_eq!(map(b"(lines 7)\n", &mut short, &mut []), without_line(2));
+    assert_eq!(map(&[b'x'; 60_001], &mut short, &mut []), without_line(1));
+    assert_eq!(reduce(text, &mut short, &mut answer), without_line(2));
+    assert_eq!(
+        reduce(&[b'x'; 60_001], &mut short, &mut answer),
+        without_line(1)
+    );
     assert!(short.iter().all(|&record| record == JUNK));
     assert!(answer.iter().all(|&byte| byte == b'?'));
     let mut list = vec![JUNK; 4_096];
     assert_eq!(
         reduce(text, &mut list, &mut answer[..answer_text.len() - 1]),
-        refused(10)
+        without_line(10)
     );
     assert!(list.iter().all(|&record| record == NOT_0));
     assert!(answer.iter().all(|&byte| byte == b'?'));
     let mut list = vec![JUNK; 4_096];
     let outcome = reduce(text, &mut list, &mut answer[..answer_text.len()]);
-    assert_eq!(
-        outcome,
-        Outcome {
-            number: 0,
-            line: 0,
-            count: answer_text.len() as u64
-        }
-    );
+    assert_eq!(outcome, accepted(1, answer_text.len() as u64));
     assert_eq!(&answer[..answer_text.len()], answer_text);
     assert!(answer[answer_text.len()..].iter().all(|&byte| byte == b'?'));
     assert_eq!(list[0], Gate::powered(2, 0, 1).number());

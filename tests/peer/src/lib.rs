@@ -1,12 +1,12 @@
-//! A second implementation of the jobs (map, reduce, quote, compare), written
-//! from the scope document and the orders alone, in plain Rust. The comparisons
-//! take it as the expected answer, the benchmark as the peer in speed.
+//! A second implementation of the jobs (map, reduce, compare), written from the
+//! scope document and the orders alone, in plain Rust. The comparisons take it as
+//! the expected answer, the benchmark as the peer in speed.
 //!
 //! Modules: `gate` (gates, their numbers and when two pass), `reader` (the two
 //! texts and rules 3 to 9), `expansion` (from mct gates to NCV gates),
 //! `reduction` (merge to a fixed point, then order by selection), `comparison`
 //! (the job over two texts, and its program). This file holds the jobs over one
-//! text: the lent memory and rules 1, 2 and 10.
+//! text, with the lent memory and rules 1, 2 and 10, and their programs.
 
 pub mod comparison;
 pub mod expansion;
@@ -25,13 +25,17 @@ pub const SHORTEST_LIST: usize = 4_096;
 pub const MOST_GATES: usize = 4_096;
 /// The most mct lines of a cascade (rule 9).
 pub const MOST_MCTS: usize = 256;
+/// The longest answer text, in bytes: no line of it has more than 11.
+pub const LONGEST_ANSWER: usize = 11 * (MOST_GATES + 1);
 
-/// What a job returns: the number 0 to 10, the line and the count.
+/// What a job over one text returns: the number 0 to 10, the line, the gates of
+/// the reduced list and the bytes written.
 #[derive(Clone, Copy, Debug, PartialEq, Eq)]
 pub struct Outcome {
     pub number: u64,
     pub line: u64,
-    pub count: u64,
+    pub gates: u64,
+    pub bytes: u64,
 }
 
 /// A refusal: its number and its line (0 where the rule has no line).
@@ -46,16 +50,6 @@ impl Refusal {
     /// in every record.
     fn clears(self) -> bool {
         self.number > 2
-    }
-}
-
-impl From<Refusal> for Outcome {
-    fn from(refusal: Refusal) -> Outcome {
-        Outcome {
-            number: refusal.number,
-            line: refusal.line,
-            count: 0,
-        }
     }
 }
 
@@ -84,63 +78,84 @@ pub enum Kind {
     Circuit,
 }
 
-/// Map a cascade text to a circuit text.
+/// The jobs over one text.
+#[derive(Clone, Copy, Debug, PartialEq, Eq)]
+pub enum Job {
+    Map,
+    Reduce,
+}
+
+impl Job {
+    pub fn run(self, text: &[u8], list: &mut [u16], answer: &mut [u8]) -> Outcome {
+        match self {
+            Job::Map => map(text, list, answer),
+            Job::Reduce => reduce(text, list, answer),
+        }
+    }
+}
+
+/// Map a cascade text to a circuit text. An answer area of length 0 asks for the
+/// gates and the list alone, and no text is written.
 pub fn map(text: &[u8], list: &mut [u16], answer: &mut [u8]) -> Outcome {
-    writing_job(Kind::Cascade, text, list, answer)
+    let area = (!answer.is_empty()).then_some(answer);
+    over_one_text(Kind::Cascade, text, list, area)
 }
 
 /// Reduce a circuit text.
 pub fn reduce(text: &[u8], list: &mut [u16], answer: &mut [u8]) -> Outcome {
-    writing_job(Kind::Circuit, text, list, answer)
+    over_one_text(Kind::Circuit, text, list, Some(answer))
 }
 
-/// Count the gates that `map` would give for a cascade text.
-pub fn quote(text: &[u8], list: &mut [u16]) -> Outcome {
-    match reduced(Kind::Cascade, text, list) {
-        Err(refusal) => refusal.into(),
-        Ok(circuit) => {
-            fill(list, &circuit.gates);
+fn over_one_text(kind: Kind, text: &[u8], list: &mut [u16], area: Option<&mut [u8]>) -> Outcome {
+    match answered(kind, text, list.len(), area) {
+        Err(refusal) => {
+            if refusal.clears() {
+                fill(list, &[]);
+            }
+            Outcome {
+                number: refusal.number,
+                line: refusal.line,
+                gates: 0,
+                bytes: 0,
+            }
+        }
+        Ok((gates, bytes)) => {
+            fill(list, &gates);
             Outcome {
                 number: 0,
                 line: 0,
-                count: circuit.gates.len() as u64,
+                gates: gates.len() as u64,
+                bytes: bytes as u64,
             }
         }
     }
 }
 
-fn writing_job(kind: Kind, text: &[u8], list: &mut [u16], answer: &mut [u8]) -> Outcome {
-    let circuit = match reduced(kind, text, list) {
-        Err(refusal) => return refusal.into(),
-        Ok(circuit) => circuit,
+/// Rules 1 to 10: the reduced list, and how many bytes of the area, if there is
+/// one, its text takes.
+fn answered(
+    kind: Kind,
+    text: &[u8],
+    list_len: usize,
+    area: Option<&mut [u8]>,
+) -> Result<(Vec<Gate>, usize), Refusal> {
+    let circuit = judged(kind, text, list_len)?.reduced();
+    let bytes = match area {
+        None => 0,
+        Some(area) => write_text(&circuit, area)?,
     };
-    let written = circuit_text(&circuit);
-    if written.len() > answer.len() {
-        fill(list, &[]);
-        return Refusal {
-            number: 10,
-            line: 0,
-        }
-        .into();
-    }
-    answer[..written.len()].copy_from_slice(&written);
-    fill(list, &circuit.gates);
-    Outcome {
-        number: 0,
-        line: 0,
-        count: written.len() as u64,
-    }
+    Ok((circuit.gates, bytes))
 }
 
-/// Rules 1 to 9, then the reduced list. Any refusal from rule 3 on clears the
-/// gate list; on success it is still as it was lent.
-fn reduced(kind: Kind, text: &[u8], list: &mut [u16]) -> Result<Circuit, Refusal> {
-    let circuit = judged(kind, text, list.len()).inspect_err(|refusal| {
-        if refusal.clears() {
-            fill(list, &[]);
-        }
+/// Rule 10: the text of a circuit at the front of the area, and its length.
+fn write_text(circuit: &Circuit, area: &mut [u8]) -> Result<usize, Refusal> {
+    let text = circuit_text(circuit);
+    let front = area.get_mut(..text.len()).ok_or(Refusal {
+        number: 10,
+        line: 0,
     })?;
-    Ok(circuit.reduced())
+    front.copy_from_slice(&text);
+    Ok(text.len())
 }
 
 /// Rules 1 to 9: the circuit of a text that is judged with a list of so many
@@ -196,40 +211,43 @@ fn put_number(text: &mut Vec<u8>, number: u8) {
     text.push(b'0' + number % 10);
 }
 
-/// What the program of a job over one text writes: the answer, or the form
-/// `(turned-away r l)`.
-pub fn program_answer(job: Job, text: &[u8]) -> Vec<u8> {
-    let mut list = [0u16; SHORTEST_LIST];
-    let mut answer = vec![0u8; 11 * (MOST_GATES + 1)];
-    let outcome = match job {
-        Job::Map => map(text, &mut list, &mut answer),
-        Job::Reduce => reduce(text, &mut list, &mut answer),
-        Job::Quote => quote(text, &mut list),
-    };
-    if outcome.number != 0 {
-        return format!("(turned-away {} {})\n", outcome.number, outcome.line).into_bytes();
-    }
-    match job {
-        Job::Quote => format!("(quote {})\n", outcome.count).into_bytes(),
-        _ => {
-            answer.truncate(outcome.count as usize);
-            answer
-        }
-    }
-}
-
-/// The jobs over one text.
+/// The programs over one text.
 #[derive(Clone, Copy, Debug, PartialEq, Eq)]
-pub enum Job {
+pub enum Program {
     Map,
     Reduce,
     Quote,
 }
 
+/// What a program over one text writes: the answer, or the form
+/// `(turned-away r l)`.
+pub fn program_answer(program: Program, text: &[u8]) -> Vec<u8> {
+    let (job, answer_len) = match program {
+        Program::Map => (Job::Map, LONGEST_ANSWER),
+        Program::Reduce => (Job::Reduce, LONGEST_ANSWER),
+        Program::Quote => (Job::Map, 0),
+    };
+    let mut list = [0u16; SHORTEST_LIST];
+    let mut answer = vec![0u8; answer_len];
+    let outcome = job.run(text, &mut list, &mut answer);
+    if outcome.number != 0 {
+        return format!("(turned-away {} {})\n", outcome.number, outcome.line).into_bytes();
+    }
+    match program {
+        Program::Quote => format!("(quote {})\n", outcome.gates).into_bytes(),
+        _ => {
+            answer.truncate(outcome.bytes as usize);
+            answer
+        }
+    }
+}
+
 /// The whole of a program over one text: standard input to standard output.
-pub fn run_program(job: Job) -> io::Result<()> {
+pub fn run_program(program: Program) -> io::Result<()> {
     let text = whole_text(io::stdin().lock())?;
-    io::stdout().lock().write_all(&program_answer(job, &text))
+    io::stdout()
+        .lock()
+        .write_all(&program_answer(program, &text))
 }
 
 /// The text that a program reads: one byte past the longest is enough to refuse

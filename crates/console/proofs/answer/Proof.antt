@@ -16,7 +16,7 @@ returns c =
     let d = c .before .before .before .before in
     let a = d .before .before .before .args in
     let w = c .write-turned-away in
-    refusal-answers (a .job) (a .text .now) (a .out .now) (d .outcome-of .result) _ _ _ (omega (arith, d .before .outcome-of-arg .given)) (d .outcome-of .ensures) (c .before .before .if1 .taken) (record { number = w .ensures .0; bytes = w .ensures .1 })
+    refusal-answers (a .program) (a .text .now) (a .out .now) (d .outcome-of .result) _ _ _ (omega (arith, d .before .outcome-of-arg .given)) (d .outcome-of .ensures) (c .before .before .if1 .taken) (record { number = w .ensures .0; bytes = w .ensures .1 })
 
 write-success-requires : tie.Need-write-success-requires
 write-success-requires c κs = search needs
@@ -25,7 +25,7 @@ returns-2 : tie.Need-returns-2
 returns-2 c =
     let d = c .before .before .before .before in
     let a = d .before .before .before .args in
-    success-answers (a .job) (a .text .now) (a .out .now) (d .outcome-of .result) _ _ _ (omega (arith, d .before .outcome-of-arg .given)) (d .outcome-of .ensures) (c .before .before .if1 .left) (c .write-success .ensures)
+    success-answers (a .program) (a .text .now) (a .out .now) (d .outcome-of .result) _ _ _ (omega (arith, d .before .outcome-of-arg .given)) (d .outcome-of .ensures) (c .before .before .if1 .left) (c .write-success .ensures)
 
 pub answer-spec : {M : Type 1} → statement M
 answer-spec =

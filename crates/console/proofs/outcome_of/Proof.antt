@@ -1,4 +1,4 @@
--- `console::outcome_of` meets its contract: each arm is that of the job it calls. Assumes nothing.
+-- `console::outcome_of` meets its contract: each arm is that of the function it calls. Assumes nothing.
 use borrow.Author.Needs.{needs}
 use mathlib.Core.Path.{refl}
 use Rattle.console.proofs.outcome_of.Statement.{statement}
@@ -19,8 +19,8 @@ reduce-text-requires c κs = search needs
 enum-told-3 : tie.Need-enum-told-3
 enum-told-3 c = search needs
 
-quote-text-requires : tie.Need-quote-text-requires
-quote-text-requires c κs = search needs
+quote-requires : tie.Need-quote-requires
+quote-requires c κs = search needs
 
 same-length : tie.Need-same-length
 same-length c = search needs
@@ -35,7 +35,7 @@ returns-2 : tie.Need-returns-2
 returns-2 c = rw (c .before .before .before .before .enum-told2 .given .1) (c .before .before .reduce-text .ensures)
 
 returns-3 : tie.Need-returns-3
-returns-3 c = rw (c .before .enum-told3 .given .1) (c .quote-text .ensures, refl)
+returns-3 c = rw (c .before .enum-told3 .given .1) (c .quote .ensures, refl)
 
 pub outcome-of-spec : {M : Type 1} → statement M
 outcome-of-spec =
@@ -46,7 +46,7 @@ outcome-of-spec =
     enum-told-2
     reduce-text-requires
     enum-told-3
-    quote-text-requires
+    quote-requires
     same-length
     returns
     same-length-2

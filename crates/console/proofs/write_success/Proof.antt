@@ -1,4 +1,4 @@
--- `console::write_success` meets its contract: the count of map and reduce is left as it is, that of quote written as a form. Assumes nothing.
+-- `console::write_success` meets its contract: the bytes of map and reduce are left as they are, the gates of quote written as a form. Assumes nothing.
 use borrow.Author.Needs.{needs}
 use mathlib.Core.Path.{refl}
 use Rattle.console.proofs.write_success.Statement.{statement}

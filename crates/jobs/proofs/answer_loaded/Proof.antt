@@ -9,8 +9,8 @@ use Rattle.jobs.proofs.answer_loaded.Tie as tie
 enum-known-loaded : tie.Need-enum-known-loaded
 enum-known-loaded c = search needs
 
-answer-text-requires : tie.Need-answer-text-requires
-answer-text-requires c κs = fewer (omega arith) (rw (c .before .before .loaded .given .1) at (c .before .before .before .before .before .pre))
+put-out-requires : tie.Need-put-out-requires
+put-out-requires c κs = fewer (omega arith) (rw (c .before .before .loaded .given .1) at (c .before .before .before .before .before .pre))
 
 enum-known-loaded-2 : tie.Need-enum-known-loaded-2
 enum-known-loaded-2 c = search needs
@@ -22,7 +22,7 @@ same-length : tie.Need-same-length
 same-length c = search needs
 
 returns : tie.Need-returns
-returns c = rw (c .before .before .before .before .before .loaded .given .1) (c .before .before .answer-text .ensures)
+returns c = rw (c .before .before .before .before .before .loaded .given .1) (c .before .before .put-out .ensures)
 
 returns-2 : tie.Need-returns-2
 returns-2 c = rw (c .before .before .loaded2 .given .1) (c .refuse .ensures, refl)
@@ -32,7 +32,7 @@ answer-loaded-spec =
     tie.close
     (tie.spec
     enum-known-loaded
-    answer-text-requires
+    put-out-requires
     enum-known-loaded-2
     refuse-requires
     same-length

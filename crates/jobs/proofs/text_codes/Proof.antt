@@ -1,7 +1,7 @@
 -- `jobs::text_codes` meets its contract. Assumes nothing.
 use borrow.Author.Needs.{needs}
 use denote.Ref.{now}
-use Rattle.jobs.proofs.Handed.{answerable, text-hands}
+use Rattle.jobs.proofs.Handed.{answerable, loaded-hands}
 use Rattle.jobs.proofs.text_codes.Statement.{statement}
 use Rattle.jobs.proofs.text_codes.Tie as tie
 
@@ -22,7 +22,7 @@ returns c =
     let b = c .before .before .before .before .before .before .before .before .before .args in
     let x = c .before .before .before .before .before .load-reduced in
     let y = c .before .before .answer-loaded .ensures in
-    rw (y .0, y .1) (text-hands (b .kind) (now (b .text)) (now (b .answer)) (x .last .1 .1 .1 .0) (b .room) (x .result) (x .kept .1 .1 .1 .0) (x .ensures))
+    rw (y .0, y .1) (loaded-hands (b .kind) (now (b .text)) (now (b .answer)) (x .last .1 .1 .1 .0) (b .room) (x .result) (x .kept .1 .1 .1 .0) (x .ensures))
 
 pub text-codes-spec : {M : Type 1} → statement M
 text-codes-spec =

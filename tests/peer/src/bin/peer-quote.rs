@@ -1,5 +1,6 @@
-//! The program of the peer's quote job: standard input to standard output.
+//! The program of the gate count, by the peer's map job: standard input to
+//! standard output.
 
 fn main() -> std::io::Result<()> {
-    peer::run_program(peer::Job::Quote)
+    peer::run_program(peer::Program::Quote)
 }

@@ -1,5 +1,5 @@
 //! The program of the peer's reduce job: standard input to standard output.
 
 fn main() -> std::io::Result<()> {
-    peer::run_program(peer::Job::Reduce)
+    peer::run_program(peer::Program::Reduce)
 }
