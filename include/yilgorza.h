@@ -21,7 +21,7 @@
    - it has no data that can be written: so nothing is kept between calls;
    - calls may run at the same time, with lists, answer areas and outcomes of
      their own; they may share their texts;
-   - a call takes less than 64 KiB of stack;
+   - a call takes less than 96 KiB of stack;
    - a pointer may be null if its length is 0. */
 
 #ifndef YILGORZA_H

@@ -2,7 +2,7 @@
    texts, on a stack of its own between two pages that may not be touched. The stack is
    painted before the call; the lowest byte that has changed after it is as far as the
    call came. It is painted twice, in two colours, since a call may write one of them.
-   The stack has twice the 64 KiB that the header states, so that a call that takes
+   The stack has twice the 96 KiB that the header states, so that a call that takes
    more of it is measured too. */
 
 #include <sys/mman.h>
@@ -11,7 +11,7 @@
 
 #include "texts.h"
 
-enum { STATED = 64 * 1024, STACK = 2 * STATED };
+enum { STATED = 96 * 1024, STACK = 2 * STATED };
 
 /* The functions: the jobs over one text, and these. */
 enum { COMPARE = JOBS, GATE, FUNCTIONS };

@@ -8,7 +8,7 @@ use lib.ListN.{length}
 use Rattle.gates.specs.declared.Gate.the-variants.{Powered}
 use Rattle.gates.specs.Circuit.{target, slot, power, powered}
 use Rattle.gates.specs.Inverse.{inverse, inverted}
-use Rattle.gates.specs.Push.{merged, passes-dec, same-dec, less-dec, free-dec, turn-of, turn, place, push}
+use Rattle.gates.proofs.Pushing.{merged, passes-dec, same-dec, less-dec, free-dec, turn-of, turn, place, push}
 use Rattle.gates.proofs.Theorem.{nf}
 use Rattle.meaning.specs.Pattern.{has}
 use Rattle.cascades.specs.Expansion.{_⨾_, joined, spare, expand, expansion, counts}

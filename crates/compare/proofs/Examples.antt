@@ -6,7 +6,7 @@ use native.Mathlib.Decide.{ℕ-discrete, decLt}
 use Rattle.gates.specs.Every.{Every}
 use Rattle.gates.specs.Circuit as C
 use Rattle.gates.specs.Circuit.{slot, power, powered}
-use Rattle.gates.specs.Push.{merged, passes-dec, same-dec, less-dec, free-dec, turn-of, turn, place, push}
+use Rattle.gates.proofs.Pushing.{merged, passes-dec, same-dec, less-dec, free-dec, turn-of, turn, place, push}
 use Rattle.gates.proofs.Theorem.{nf}
 use Rattle.meaning.specs.Pattern.{has}
 use Rattle.text.specs.Text.{bytes}

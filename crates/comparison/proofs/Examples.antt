@@ -14,7 +14,7 @@ use Rattle.gates.specs.declared.Gate.the-variants.{Not}
 use Rattle.gates.specs.Every.{Every}
 use Rattle.gates.specs.Circuit as C
 use Rattle.gates.specs.Circuit.{slot, power, powered, AllValid, valid-not, Linked, done}
-use Rattle.gates.specs.Push.{merged, passes-dec, same-dec, less-dec, free-dec, turn-of, turn, place, push}
+use Rattle.gates.proofs.Pushing.{merged, passes-dec, same-dec, less-dec, free-dec, turn-of, turn, place, push}
 use Rattle.gates.specs.Reduced.{Reduced}
 use Rattle.gates.proofs.Theorem.{nf, nf-reduced, reduced-unique}
 use Rattle.meaning.specs.Pattern.{has}

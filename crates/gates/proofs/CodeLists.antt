@@ -10,7 +10,7 @@ use Rattle.gates.specs.declared.Gate.{Gate}
 use Rattle.gates.specs.Circuit.{Valid, valid-not, valid-powered, AllValid}
 use Rattle.gates.specs.Order.{_≼_, none, less, same}
 use Rattle.gates.specs.Code.{code, gate, gates, Code, AllCodes}
-use Rattle.gates.proofs.Every.{every-append, every-take, every-drop, every-at, every-follows}
+use Rattle.gates.proofs.Every.{every-append, every-take, every-at, every-follows}
 use Rattle.gates.proofs.Codes.{gate-code, code-code, code-injective, earlier-code}
 
 -- ---- the gates of a list, part by part
@@ -48,9 +48,6 @@ module _ (n : ℕ) where
 
   pub all-codes-take : (i : ℕ) (l : List ℕ) → AllCodes n l → AllCodes n (take i l)
   all-codes-take = every-take (Code n)
-
-  pub all-codes-drop : (i : ℕ) (l : List ℕ) → AllCodes n l → AllCodes n (drop i l)
-  all-codes-drop = every-drop (Code n)
 
   pub code-at : (l : List ℕ) (i d : ℕ) → i < length l → AllCodes n l → Code n (getD l i d)
   code-at = every-at (Code n)

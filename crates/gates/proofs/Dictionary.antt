@@ -7,7 +7,8 @@ use native.Mathlib.Omega.{arith}
 use lib.ListN.{length, length-append}
 use Rattle.gates.specs.declared.Gate.{Gate}
 use Rattle.gates.specs.Order.{Earlier, by-target, by-control, by-power, _≼_, none, less, same}
-use Rattle.gates.specs.Push.{Less, low, tie, Turn, meets, enters, stays, turn, push, pushes}
+use Rattle.gates.specs.Sites.{Less, low, tie}
+use Rattle.gates.proofs.Pushing.{Turn, meets, enters, stays, turn, push, pushes}
 use Rattle.gates.proofs.Merge.{merged-elim}
 use Rattle.gates.proofs.Push.{push-nil, push-meets, push-enters, push-stays}
 

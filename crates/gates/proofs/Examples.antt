@@ -12,7 +12,7 @@ use Rattle.gates.specs.Every.{Every}
 use Rattle.gates.specs.Circuit.{target, slot, power, powered, Valid, valid-not, valid-powered, AllValid}
 use Rattle.gates.specs.Reduced.{Reduced}
 use Rattle.gates.specs.Code.{code, assembled, gate}
-use Rattle.gates.specs.Push.{merged, passes-dec, same-dec, less-dec, free-dec, turn-of, turn, place, push}
+use Rattle.gates.proofs.Pushing.{merged, passes-dec, same-dec, less-dec, free-dec, turn-of, turn, place, push}
 use Rattle.gates.proofs.Every.{every-follows}
 use Rattle.gates.proofs.Theorem.{nf, nf-reduced}
 

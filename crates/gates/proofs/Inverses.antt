@@ -11,7 +11,8 @@ use Rattle.gates.specs.declared.Gate.the-variants.{Not, Powered}
 use Rattle.gates.specs.Circuit.{target, slot, power, powered, Valid, valid-not, valid-powered, AllValid, Passes, Rewrite, pass, merge, cancel, Step, step, Linked, done, forth, back}
 use Rattle.gates.specs.Reduced.{Reduced}
 use Rattle.gates.specs.Inverse.{inverted, inverse}
-use Rattle.gates.specs.Push.{Same, merged}
+use Rattle.gates.specs.Sites.{Same}
+use Rattle.gates.proofs.Pushing.{merged}
 use Rattle.gates.proofs.Sites.{passes-sym, passes-same, passes-same-right}
 use Rattle.gates.proofs.Merge.{powered-one, merged-rewrite}
 use Rattle.gates.proofs.Reach.{all-valid-append, all-valid-left, all-valid-right}

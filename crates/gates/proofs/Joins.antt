@@ -8,7 +8,7 @@ use lib.ListN.{length, length-append}
 use Rattle.gates.specs.declared.Gate.{Gate}
 use Rattle.gates.specs.Circuit.{AllValid, Linked, done}
 use Rattle.gates.specs.Reduced.{Reduced}
-use Rattle.gates.specs.Push.{push, pushes}
+use Rattle.gates.proofs.Pushing.{push, pushes}
 use Rattle.gates.proofs.Reach.{all-valid-append, all-valid-left, all-valid-right}
 use Rattle.gates.proofs.Chains.{linked-join}
 use Rattle.gates.proofs.Theorem.{nf, pushes-append, linked-nf, nf-linked, nf-reduced}

@@ -1,6 +1,7 @@
 -- The laws and theorems of this crate, in reading order.
 pub mod Every
 pub mod Sites
+pub mod Pushing
 pub mod Merge
 pub mod Push
 pub mod Normal
@@ -13,6 +14,5 @@ pub mod ReducedLists
 pub mod Joins
 pub mod Inverses
 pub mod Examples
-pub mod Scan
 pub mod Codes
 pub mod CodeLists

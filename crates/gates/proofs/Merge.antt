@@ -8,7 +8,8 @@ use native.Mathlib.Omega.{arith}
 use Rattle.gates.specs.declared.Gate.{Gate}
 use Rattle.gates.specs.declared.Gate.the-variants.{Not, Powered}
 use Rattle.gates.specs.Circuit.{target, slot, power, powered, Valid, valid-not, valid-powered, AllValid, Rewrite, merge, cancel}
-use Rattle.gates.specs.Push.{Same, merged}
+use Rattle.gates.specs.Sites.{Same}
+use Rattle.gates.proofs.Pushing.{merged}
 
 pub powered-one : (p c t : ℕ) → 1 ≤ p → powered p c t ≡ Powered p c t ∷ []
 unfolding powered

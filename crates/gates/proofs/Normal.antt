@@ -5,7 +5,8 @@ use mathlib.Core.Logic.{_⊎_, inl, inr}
 use mathlib.Core.List.{List, [], _∷_, _++_}
 use Rattle.gates.specs.declared.Gate.{Gate}
 use Rattle.gates.specs.Circuit.{Passes}
-use Rattle.gates.specs.Push.{Same, Less, merged, Free, free-nil, free-cons, free-head, free-tail, NotMeets, NotEnters, Turn, meets, enters, stays, turn, push, Front, here, there, Lowest, Normal, normal-nil, normal-cons}
+use Rattle.gates.specs.Sites.{Same, Less, Free, free-nil, free-cons, Front, here, there}
+use Rattle.gates.proofs.Pushing.{merged, free-head, free-tail, NotMeets, NotEnters, Turn, meets, enters, stays, turn, push, Lowest, Normal, normal-nil, normal-cons}
 use Rattle.gates.proofs.Sites.{Order, before, level, after, order, same-refl, same-sym, same-trans, less-same, same-less, less-trans, less-irrefl, less-asym}
 use Rattle.gates.proofs.Sites.{passes-sym, passes-same, passes-same-right}
 use Rattle.gates.proofs.Push.{free-same, push-nil, push-meets, push-enters, push-stays}

@@ -3,7 +3,8 @@ use mathlib.Core.Path.{_≡_, refl}
 use mathlib.Core.List.{List, [], _∷_, _++_}
 use Rattle.gates.specs.declared.Gate.{Gate}
 use Rattle.gates.specs.Circuit.{Passes}
-use Rattle.gates.specs.Push.{Same, Less, merged, Free, free-nil, free-cons, NotMeets, NotEnters, Turn, meets, enters, stays, turn, place, push}
+use Rattle.gates.specs.Sites.{Same, Less, Free, free-nil, free-cons}
+use Rattle.gates.proofs.Pushing.{merged, NotMeets, NotEnters, Turn, meets, enters, stays, turn, place, push}
 use Rattle.gates.proofs.Sites.{same-sym, same-trans, same-less, less-irrefl, passes-same, passes-same-right}
 
 -- ---- no later proof opens the definition of push

@@ -5,7 +5,8 @@ use mathlib.Core.List.{List, [], _∷_}
 use Prim.Native.Nat.{ℕ}
 use Rattle.gates.specs.declared.Gate.{Gate}
 use Rattle.gates.specs.Circuit.{Passes, Valid, AllValid}
-use Rattle.gates.specs.Push.{Same, Less, merged, Free, free-nil, free-cons, NotMeets, NotEnters, Turn, meets, enters, stays, turn, push, pushes, Lowest, Normal, normal-nil, normal-cons}
+use Rattle.gates.specs.Sites.{Same, Less, Free, free-nil, free-cons}
+use Rattle.gates.proofs.Pushing.{merged, NotMeets, NotEnters, Turn, meets, enters, stays, turn, push, pushes, Lowest, Normal, normal-nil, normal-cons}
 use Rattle.gates.proofs.Sites.{same-sym, same-trans, same-less}
 use Rattle.gates.proofs.Sites.{passes-sym, passes-same-right, passes-self}
 use Rattle.gates.proofs.Merge.{Sum, gone, one, sum, Triple, neither, left, right, both, triple}

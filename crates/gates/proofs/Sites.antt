@@ -5,7 +5,7 @@ use native.Mathlib.Omega.{arith}
 use native.Mathlib.Decide.{decLt}
 use Rattle.gates.specs.declared.Gate.{Gate}
 use Rattle.gates.specs.Circuit.{target, slot, Passes, Valid, valid-not, valid-powered}
-use Rattle.gates.specs.Push.{Same, Less, low, tie}
+use Rattle.gates.specs.Sites.{Same, Less, low, tie}
 
 pub same-refl : (g : Gate) → Same g g
 same-refl g = record { targets = refl; controls = refl }

@@ -12,7 +12,7 @@ use Rattle.gates.specs.declared.Gate.the-variants.{Not}
 use Rattle.gates.specs.Circuit.{Passes, Valid, AllValid, Rewrite, pass, merge, cancel, Step, step, Linked, done, forth, back, Reaches}
 use Rattle.gates.specs.Order.{_≼_}
 use Rattle.gates.specs.Reduced.{Reduced}
-use Rattle.gates.specs.Push.{push, pushes, Normal, normal-nil}
+use Rattle.gates.proofs.Pushing.{push, pushes, Normal, normal-nil}
 use Rattle.gates.proofs.Sites.{Order, before, level, after, order, same-refl, same-sym, less-irrefl}
 use Rattle.gates.proofs.Merge.{merged-comm, merged-powered, merged-not, merged-same}
 use Rattle.gates.proofs.Normal.{normal-push, commute}

@@ -3,6 +3,6 @@ pub mod Every
 pub mod Circuit
 pub mod Order
 pub mod Reduced
-pub mod Push
+pub mod Sites
 pub mod Inverse
 pub mod Code

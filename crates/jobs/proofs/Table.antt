@@ -17,7 +17,7 @@ use Rattle.meaning.specs.Pattern.{has}
 use Rattle.gates.specs.Inverse.{inverse, inverted}
 use Rattle.cascades.specs.Expansion.{spare, _⨾_, joined, expand, expansion}
 use Rattle.meaning.proofs.Flips.{both}
-use Rattle.gates.specs.Push.{merged, passes-dec, same-dec, less-dec, free-dec, turn-of, turn, place, push}
+use Rattle.gates.proofs.Pushing.{merged, passes-dec, same-dec, less-dec, free-dec, turn-of, turn, place, push}
 use Rattle.gates.proofs.Theorem.{nf}
 use Rattle.text.specs.declared.Head.{Head}
 use Rattle.text.specs.Refusals.{number-of}

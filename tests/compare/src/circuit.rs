@@ -55,6 +55,38 @@ impl Gate {
         }
     }
 
+    /// A gate with the same control and target, of any power.
+    pub fn of_any_power(self, random: &mut Random) -> Gate {
+        match self {
+            Not { .. } => self,
+            Powered {
+                control, target, ..
+            } => Powered {
+                power: random.between(1, 3) as u8,
+                control,
+                target,
+            },
+        }
+    }
+
+    /// The gate on other lines: those at the places that its own lines name.
+    pub fn moved(self, lines: &[u8]) -> Gate {
+        match self {
+            Not { target } => Not {
+                target: lines[usize::from(target)],
+            },
+            Powered {
+                power,
+                control,
+                target,
+            } => Powered {
+                power,
+                control: lines[usize::from(control)],
+                target: lines[usize::from(target)],
+            },
+        }
+    }
+
     fn target(self) -> u8 {
         match self {
             Not { target } | Powered { target, .. } => target,
@@ -182,6 +214,32 @@ pub fn linked(
         }
     }
     gates
+}
+
+/// The same gates redrawn by passes alone: so often one is carried some places
+/// along, either way, while it passes.
+pub fn carried(random: &mut Random, gates: &[Gate], times: usize) -> Vec<Gate> {
+    let mut gates = gates.to_vec();
+    if gates.is_empty() {
+        return gates;
+    }
+    for _ in 0..times {
+        let mut place = random.below(gates.len());
+        let step = random.pick(&[1, usize::MAX]);
+        for _ in 0..random.between(1, 200) {
+            let next = place.wrapping_add(step);
+            if next >= gates.len() || !pass(gates[place], gates[next]) {
+                break;
+            }
+            gates.swap(place, next);
+            place = next;
+        }
+    }
+    gates
+}
+
+pub fn records(gates: &[Gate]) -> Vec<u16> {
+    gates.iter().map(|gate| gate.record()).collect()
 }
 
 pub fn text(lines: u8, gates: &[Gate]) -> Vec<u8> {

@@ -3,11 +3,12 @@
 //! them. What the papers say of an answer by themselves, and of the answers of one
 //! text with several areas, is asserted without the peer too.
 
+use crate::built::{self, Drawn};
 use crate::circuit::{self, Gate};
 use crate::known::{self, Known};
 use crate::random::Random;
 use crate::report::{shown, Report};
-use crate::subject::{call, read_record, Area};
+use crate::subject::{call, holds, read_record, Area};
 use crate::texts;
 use peer::{Job, Outcome};
 
@@ -44,7 +45,7 @@ pub fn run() -> Report {
         random: Random::seeded(20_240_601),
         numbers: [[0; 11]; CALLS.len()],
     };
-    let parts: [(&str, Part); 10] = [
+    let parts: [(&str, Part); 12] = [
         ("answer areas of every length", Library::every_area),
         ("every single change of small texts", Library::every_change),
         ("valid texts", Library::valid),
@@ -54,6 +55,8 @@ pub fn run() -> Report {
         ("numbers of lines and gates at the limits", Library::limits),
         ("long texts", Library::long),
         ("linked circuits", Library::linked),
+        ("long circuits of known lists", Library::built),
+        ("long circuits redrawn by passes", Library::redrawn),
         ("records", Library::records),
     ];
     for (name, part) in parts {
@@ -445,6 +448,70 @@ impl Library {
                     )
                 });
             self.case(Job::Reduce, &texts[1], 4_096, 50_000);
+        }
+    }
+
+    /// Long circuits of each kind get the list that the definitions give them, and
+    /// so do their redrawings.
+    fn built(&mut self) {
+        for lines in built::LINES {
+            for (name, kind) in built::KINDS {
+                for round in 0..60 {
+                    let full = round == 0;
+                    for drawn in built::drawn_twice(&mut self.random, kind, lines, full) {
+                        self.listed(name, lines, &drawn);
+                    }
+                }
+            }
+        }
+    }
+
+    fn listed(&mut self, name: &str, lines: u8, drawn: &Drawn) {
+        let Drawn { gates, list } = drawn;
+        let (text, answer) = (circuit::text(lines, gates), circuit::text(lines, list));
+        let given = self.case(Job::Reduce, &text, 4_096, 50_000);
+        let expected = Outcome {
+            number: 0,
+            line: 0,
+            gates: list.len() as u64,
+            bytes: answer.len() as u64,
+        };
+        let right = given.outcome == expected && holds(&given.list, &circuit::records(list));
+        self.report.case(right, || {
+            format!(
+                "{name}, {} gates: got {:?}, expected {expected:?}, or another list; text {}, \
+                 expected {}",
+                gates.len(),
+                given.outcome,
+                shown(&text),
+                shown(&answer)
+            )
+        });
+    }
+
+    /// Any long circuit and its redrawing by passes get one list.
+    fn redrawn(&mut self) {
+        for lines in built::LINES {
+            for _ in 0..80 {
+                let count = self.random.pick(&[1_000, 2_000, 4_096]);
+                let gates = texts::gates(&mut self.random, lines, count);
+                let again = circuit::carried(&mut self.random, &gates, 2 * count);
+                let texts = [gates, again].map(|gates| circuit::text(lines, &gates));
+                let given = texts
+                    .each_ref()
+                    .map(|text| self.case(Job::Reduce, text, 4_096, 50_000));
+                let right = given[0].outcome == given[1].outcome
+                    && given[0].list.inside() == given[1].list.inside()
+                    && given[0].outcome.number == 0;
+                self.report.case(right, || {
+                    let outcomes = given.each_ref().map(|given| given.outcome);
+                    format!(
+                        "a circuit and its redrawing: {outcomes:?}, or other lists; {} and {}",
+                        shown(&texts[0]),
+                        shown(&texts[1])
+                    )
+                });
+            }
         }
     }
 

@@ -11,6 +11,7 @@
 //! Each part prints what it ran; its last line is `N passed, M failed`. The
 //! exit status is 0 only if N is not 0 and M is 0.
 
+mod built;
 mod chain;
 mod circuit;
 mod files;

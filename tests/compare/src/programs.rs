@@ -1,7 +1,10 @@
 //! The programs against the peer: those over one text from standard input to
 //! standard output, nothing on standard error, exit status 0; the one over two
-//! texts through files (see `files`).
+//! texts through files (see `files`). Long circuits whose list the definitions
+//! give (see `built`) are asserted without the peer.
 
+use crate::built;
+use crate::circuit;
 use crate::files;
 use crate::random::Random;
 use crate::report::{shown, Report};
@@ -60,12 +63,42 @@ pub fn run(directory: &Path, scratch: &Path) -> Report {
             report.passed + report.failed - before
         );
     }
+    known_lists(&mut report, &mut random, &directory.join("reduce"));
     println!(
         "programs: numbers 0 to 9 expected so often: {:?}",
         &numbers[..10]
     );
     files::run(&mut report, &directory.join("compare"), scratch);
     report
+}
+
+/// Reduce on long circuits whose list the definitions give.
+fn known_lists(report: &mut Report, random: &mut Random, reduce: &Path) {
+    let before = report.passed + report.failed;
+    for lines in built::LINES {
+        for (name, kind) in built::KINDS {
+            for drawn in built::drawn_twice(random, kind, lines, true) {
+                let text = circuit::text(lines, &drawn.gates);
+                let expected = circuit::text(lines, &drawn.list);
+                let got = Written::by(reduce, &[], &text, text.len())
+                    .and_then(|written| written.answer());
+                report.case(got.as_ref() == Ok(&expected), || {
+                    let got = got
+                        .as_ref()
+                        .map_or_else(String::clone, |answer| shown(answer));
+                    format!(
+                        "reduce, {name}: got {got}, expected {}; text {}",
+                        shown(&expected),
+                        shown(&text)
+                    )
+                });
+            }
+        }
+    }
+    println!(
+        "programs: reduce, long circuits of known lists: {} cases",
+        report.passed + report.failed - before
+    );
 }
 
 fn all_texts(random: &mut Random, program: Program) -> Vec<Vec<u8>> {

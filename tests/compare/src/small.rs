@@ -15,9 +15,9 @@
 //! computed with bound C and with bound L > C, and have to be the same on the
 //! circuits of at most C gates.
 
-use crate::circuit::{self, merge, pass, text, Gate};
+use crate::circuit::{self, merge, pass, records, text, Gate};
 use crate::report::{shown, Report};
-use crate::subject::{call, compare, Area};
+use crate::subject::{call, compare, holds, Area};
 use peer::Job;
 use std::cmp::Ordering;
 
@@ -25,7 +25,6 @@ use std::cmp::Ordering;
 const SPACES: [(u8, usize, usize); 4] = [(1, 12, 14), (2, 6, 7), (3, 4, 5), (4, 3, 4)];
 /// The same for the pairs.
 const PAIRS: [(u8, usize, usize); 3] = [(1, 5, 7), (2, 3, 5), (3, 2, 4)];
-const NOT_0: u16 = 2;
 
 pub fn run() -> Report {
     let mut report = Report::new("small");
@@ -112,10 +111,6 @@ fn all_pairs(report: &mut Report) {
     }
 }
 
-fn records(gates: &[Gate]) -> Vec<u16> {
-    gates.iter().map(|gate| gate.record()).collect()
-}
-
 fn pair(report: &mut Report, first: &Listed, second: &Listed) {
     let mut lists = [0, 1].map(|_| Area::filled(4_096, 0xffff));
     let outcome = compare([&first.text, &second.text], lists.each_mut());
@@ -135,12 +130,6 @@ fn pair(report: &mut Report, first: &Listed, second: &Listed) {
             shown(second.text.inside())
         )
     });
-}
-
-/// Whether a list holds first these records, then `not 0`.
-fn holds(list: &Area<u16>, expected: &[u16]) -> bool {
-    let (front, rest) = list.inside().split_at(expected.len());
-    front == expected && rest.iter().all(|&record| record == NOT_0)
 }
 
 /// All circuits on some lines, numbered by length and then in dictionary order:

@@ -8,6 +8,7 @@ use peer::{comparison, Job, Outcome};
 
 /// How many records or bytes before and after each area are watched.
 const GUARD: usize = 32;
+const NOT_0: u16 = 2;
 
 /// An area with watched room before and after it.
 pub struct Area<T> {
@@ -43,6 +44,12 @@ impl<T: Copy + PartialEq> Area<T> {
             .chain(&self.all[end..])
             .all(|value| *value == junk)
     }
+}
+
+/// Whether a list holds first these records, then `not 0`.
+pub fn holds(list: &Area<u16>, expected: &[u16]) -> bool {
+    let (front, rest) = list.inside().split_at(expected.len());
+    front == expected && rest.iter().all(|&record| record == NOT_0)
 }
 
 /// Calls one of the C functions over one text.
