@@ -69,26 +69,32 @@ enum {
 enum { YILGORZA_LESS = 0, YILGORZA_EQUAL = 1, YILGORZA_GREATER = 2 };
 
 /* The ten numbers of a refusal. n is the number of line 1, `(lines n)`, and k the
-   number of controls of an mct; docs/USING.md of the repository has the forms of
-   the texts. Number 1 is tried first, then 2. Then the lines of the text are taken
-   in order, and each is tried against 3 to 9 in that order; the first line that
-   fails is returned. Then comes 10. Of several texts each is tried against 1 to 9,
-   against 2 with its own list, before the next one is looked at. */
+   number of controls of an mct, negated ones among them; docs/USING.md of the
+   repository has the forms of the texts. A control with a minus sign directly
+   before it, as in `(mct (-0 1) 2)`, is negated: it is met when its line is 0, any
+   other when its line is 1. Numbers 4 to 8 read the lines, whatever the signs.
+
+   Number 1 is tried first, then 2. Then the lines of the text are taken in order,
+   and each is tried against 3 to 9 in that order; the first line that fails is
+   returned. Then comes 10. Of several texts each is tried against 1 to 9, against 2
+   with its own list, before the next one is looked at. */
 enum {
     YILGORZA_SUCCESS = 0,
     YILGORZA_OVERLONG = 1,     /* the text has more than 60,000 bytes */
     YILGORZA_SHORT_LIST = 2,   /* the list has fewer than 4,096 records */
     YILGORZA_MALFORMED = 3,    /* a line of the text is not in form, or the text is
-                                  empty */
+                                  empty; a sign is in form only as a minus sign
+                                  directly before a control of an mct */
     YILGORZA_NO_SUCH_LINE = 4, /* a number is n or more: the circuit has no such
                                   line; in line 1 of the text, n is not in 1 to
                                   32 */
     YILGORZA_CROSSED = 5,      /* a control equals the target */
-    YILGORZA_UNSORTED = 6,     /* the controls do not strictly rise */
+    YILGORZA_UNSORTED = 6,     /* the controls do not strictly rise by line */
     YILGORZA_TOO_WIDE = 7,     /* more than 15 controls */
     YILGORZA_NO_SPARE = 8,     /* three or more controls, and n = k + 1 */
     YILGORZA_TOO_MANY = 9,     /* the 257th mct, an expansion past 4,096 gates with
-                                  this line, or the 4,097th gate of a circuit */
+                                  this line, two NOTs for each negated control
+                                  counted, or the 4,097th gate of a circuit */
     YILGORZA_SHORT_ANSWER = 10 /* the answer text is longer than its area; never
                                   from map with an area of length 0 */
 };

@@ -1,4 +1,5 @@
-"""The jobs on document 01's examples, from the module and from the programs.
+"""The jobs on document 01's examples and on negated controls, from the module and from
+the programs.
 
 The environment variable YILGORZA_BIN names the folder of the programs; else it
 is target/bin of the repository.
@@ -6,6 +7,7 @@ is target/bin of the repository.
 
 import functools
 import itertools
+import re
 import subprocess
 import sys
 import tempfile
@@ -16,6 +18,7 @@ from pathlib import Path
 import yilgorza
 from texts import (
     CIRCUIT_REFUSALS,
+    NEGATED,
     PROGRAMS,
     QUOTES,
     REDUCTIONS,
@@ -26,6 +29,8 @@ from texts import (
     TOFFOLI_GATES,
     TOFFOLI_MAPPED,
     WIDE,
+    WIDE_1,
+    WIDE_2,
     typed,
 )
 from yilgorza import Gate, InternalError, Kind, Number, Ordering, TurnedAway
@@ -40,12 +45,45 @@ def order(first: int, second: int) -> Ordering:
     return Ordering((first > second) - (first < second))
 
 
+def flipped(cascade: str, pattern: int) -> int:
+    """The pattern that the gates of a cascade, with their signs, make of this one; line
+    0 is its lowest bit."""
+    for controls, target in re.findall(r"^\(mct \((.*)\) (\d+)\)$", cascade, re.M):
+        if all(
+            (pattern >> int(control.lstrip("-"))) % 2 == (control[0] != "-")
+            for control in controls.split()
+        ):
+            pattern ^= 1 << int(target)
+    return pattern
+
+
 class Module(unittest.TestCase):
     def test_toffoli(self):
         circuit = yilgorza.map(TOFFOLI)
         self.assertEqual(circuit.text, TOFFOLI_MAPPED)
         self.assertEqual(circuit.gates, TOFFOLI_GATES)
         self.assertEqual(yilgorza.quote(TOFFOLI).gates, TOFFOLI_GATES)
+
+    def test_negated_controls(self):
+        for text, mapped in NEGATED:
+            with self.subTest(text):
+                circuit = yilgorza.map(text)
+                self.assertEqual(circuit.text, mapped)
+                self.assertEqual(len(circuit.gates), mapped.count(b"\n") - 1)
+                # The list is a circuit, reduced already.
+                self.assertEqual(yilgorza.reduce(mapped), circuit)
+
+    def test_a_sign_adds_two_gates_to_the_quote_of_a_gate(self):
+        for controls in range(6):
+            lines = f"(lines {controls + 2})"
+            for signs in itertools.product(("", "-"), repeat=controls):
+                signed = " ".join(f"{sign}{line}" for line, sign in enumerate(signs))
+                plain = signed.replace("-", "")
+                counts = [
+                    yilgorza.quote(typed(lines, f"(mct ({form}) {controls})")).count
+                    for form in (signed, plain)
+                ]
+                self.assertEqual(counts[0], counts[1] + 2 * signs.count("-"), signed)
 
     def test_quotes(self):
         for text, count in QUOTES:
@@ -119,7 +157,15 @@ class Module(unittest.TestCase):
         self.assertIs(yilgorza.compare(stay, sooner), Ordering.GREATER)
 
     def test_eleven_wide_gates(self):
-        self.assertTrue(yilgorza.map(typed("(lines 17)", *[WIDE] * 11)).gates)
+        # 4,092 gates are expanded, and two more for each negated control; with three
+        # of these it is refused.
+        for gates in (
+            [WIDE] * 11,
+            [WIDE] * 10 + [WIDE_1],
+            [WIDE] * 10 + [WIDE_2],
+            [WIDE_1] + [WIDE] * 9 + [WIDE_1],
+        ):
+            self.assertTrue(yilgorza.map(typed("(lines 17)", *gates)).gates)
 
     def test_the_longest_circuit(self):
         # No two of these merge: neighbours on lines 30 and 31 don't pass.
@@ -209,10 +255,21 @@ class Programs(unittest.TestCase):
                 )
                 self.assertEqual(self.written("map", text), yilgorza.map(text).text)
 
+    def test_negated_controls(self):
+        for text, mapped in NEGATED:
+            with self.subTest(text):
+                self.assertEqual(self.written("map", text), mapped)
+
     def test_reduce(self):
         for text, reduced in REDUCTIONS:
             with self.subTest(text):
                 self.assertEqual(self.written("reduce", text), reduced)
+
+    def test_circuit_refusals(self):
+        for text, number, line in CIRCUIT_REFUSALS:
+            with self.subTest(text[:40]):
+                refusal = TurnedAway(number, line)
+                self.assertEqual(self.written("reduce", text), typed(refusal.form))
 
     def test_refusals(self):
         for text, number, line in REFUSALS:
@@ -222,6 +279,42 @@ class Programs(unittest.TestCase):
                         self.written(program, text),
                         typed(TurnedAway(number, line).form),
                     )
+
+
+class Counting(unittest.TestCase):
+    """The cascades of examples/texts that count up and down."""
+
+    def test_patterns(self):
+        # Lines 0 to 3 are the number; line 4, which is borrowed, keeps its bit.
+        for name, step in (("increment", 1), ("decrement", -1)):
+            cascade = (REPOSITORY / f"examples/texts/{name}.cascade").read_text("ascii")
+            self.assertEqual(cascade.count("(mct ("), 4)
+            for pattern in range(32):
+                self.assertEqual(
+                    flipped(cascade, pattern),
+                    pattern // 16 * 16 + (pattern + step) % 16,
+                    (name, pattern),
+                )
+
+    def test_quotes(self):
+        page = (REPOSITORY / "docs/USING.md").read_text("utf-8")
+        for name, count in (("increment", 19), ("decrement", 23)):
+            told = page.partition(f"`{name}.cascade`")[2]
+            told = re.search(r"\b[Ii]ts quote is (\d+)\.$", told, re.M)[1]
+            text = (REPOSITORY / f"examples/texts/{name}.cascade").read_bytes()
+            self.assertEqual((yilgorza.quote(text).count, told), (count, str(count)))
+
+    def test_down_undoes_up(self):
+        # As patterns; as lists the two together are not linked to no gates.
+        up, down = (
+            (REPOSITORY / f"examples/texts/{name}.cascade").read_text("ascii")
+            for name in ("increment", "decrement")
+        )
+        both = up + down.partition("\n")[2]
+        self.assertEqual(
+            [flipped(both, pattern) for pattern in range(32)], list(range(32))
+        )
+        self.assertTrue(yilgorza.quote(both).count)
 
 
 class Examples(unittest.TestCase):

@@ -104,6 +104,16 @@ class Taken(unittest.TestCase):
                     yilgorza.reduce(f"(lines 3)\n{chr(code)}\n")
                 self.assertEqual(caught.exception.form, "(turned-away 3 2)", hex(code))
 
+    def test_every_character_but_a_minus_before_a_control(self):
+        # Dashes and minus signs of other alphabets among them.
+        dashes = [*range(0x2010, 0x2016), 0x2212, 0xAD, 0xFE58, 0xFE63, 0xFF0D]
+        for code in [*range(0x80), *range(0x80, 0x110000, 977), *dashes]:
+            if chr(code) not in "-123456789":
+                with self.assertRaises(TurnedAway) as caught:
+                    yilgorza.quote(f"(lines 3)\n(mct ({chr(code)}0 1) 2)\n")
+                self.assertEqual(caught.exception.form, "(turned-away 3 2)", hex(code))
+        self.assertEqual(yilgorza.quote("(lines 3)\n(mct (-0 1) 2)\n").count, 7)
+
     def test_a_length_is_counted_in_bytes(self):
         for text, number in (
             ("x" * 60000, Number.MALFORMED),

@@ -31,6 +31,44 @@ TOFFOLI_GATES = (
     Gate(Kind.CN, 0, 1),
 )
 WIDE = "(mct (0 1 2 3 4 5 6 7 8 9 10 11 12 13 14) 15)"
+# The same gate with one, two and three controls negated.
+WIDE_1 = WIDE.replace(" 14)", " -14)")
+WIDE_2 = WIDE_1.replace("(0 ", "(-0 ")
+WIDE_3 = WIDE_2.replace(" 7 ", " -7 ")
+
+# Cascades with negated controls, and what they are mapped to.
+NEGATED = [
+    (
+        typed("(lines 2)", "(mct (-0) 1)"),
+        typed("(lines 2)", "(not 0)", "(cn 0 1)", "(not 0)"),
+    ),
+    (
+        typed("(lines 3)", "(mct (-0 -1) 2)"),
+        typed(
+            "(lines 3)",
+            "(not 0)",
+            "(not 1)",
+            "(v 0 2)",
+            "(v 1 2)",
+            "(cn 0 1)",
+            "(vp 1 2)",
+            "(not 1)",
+            "(cn 0 1)",
+            "(not 0)",
+        ),
+    ),
+    # NOTs that meet between the gates vanish.
+    (
+        typed("(lines 3)", "(mct (-0) 1)", "(mct (-0) 2)"),
+        typed("(lines 3)", "(not 0)", "(cn 0 1)", "(cn 0 2)", "(not 0)"),
+    ),
+    (typed("(lines 2)", "(mct (-0) 1)", "(mct (-0) 1)"), typed("(lines 2)")),
+    # A NOT keeps apart what would merge without it.
+    (
+        typed("(lines 2)", "(mct (0) 1)", "(mct (-0) 1)"),
+        typed("(lines 2)", "(cn 0 1)", "(not 0)", "(cn 0 1)", "(not 0)"),
+    ),
+]
 
 # Cascades and their quotes.
 QUOTES = [
@@ -38,6 +76,11 @@ QUOTES = [
     (typed("(lines 3)", "(mct (0 1) 2)", "(mct (0 1) 2)"), 9),
     (typed("(lines 5)", "(mct (0 1 2) 3)"), 14),
     (typed("(lines 32)"), 0),
+    *[(text, mapped.count(b"\n") - 1) for text, mapped in NEGATED],
+    (typed("(lines 3)", "(mct (-0 1) 2)"), 7),
+    (typed("(lines 3)", "(mct (0 -1) 2)"), 7),
+    (typed("(lines 5)", "(mct (-0 -1 -2) 3)"), 20),
+    (typed("(lines 14)", "(mct (-0 1 -12) 5)"), 18),
 ]
 
 # Circuits and what they are reduced to.
@@ -106,6 +149,11 @@ CIRCUIT_REFUSALS = [
     (typed("(lines 2)", "(cn 0 1)", "(not 2)"), Number.NO_SUCH_LINE, 3),
     (typed("(lines 2)", "(v 1 1)"), Number.CROSSED, 2),
     (typed("(lines 2)", *["(not 0)"] * 4097), Number.TOO_MANY, 4098),
+    # A circuit has no sign.
+    (typed("(lines -2)"), Number.MALFORMED, 1),
+    (typed("(lines 2)", "(cn -0 1)"), Number.MALFORMED, 2),
+    (typed("(lines 2)", "(v 0 -1)"), Number.MALFORMED, 2),
+    (typed("(lines 2)", "(not 1)", "(not -0)"), Number.MALFORMED, 3),
 ]
 
 # Cascades that are turned away, with number and line: every number but 2 and 10,
@@ -125,4 +173,41 @@ REFUSALS = [
     ),
     (typed("(lines 4)", "(mct (0 1 2) 3)"), Number.NO_SPARE, 2),
     (typed("(lines 17)", *[WIDE] * 12), Number.TOO_MANY, 13),
+    # A sign is one minus directly before a control, and stands nowhere else.
+    (typed("(lines -2)", "(mct (-0) 1)"), Number.MALFORMED, 1),
+    *[
+        (typed("(lines 13)", "(mct (-0) 1)", form), Number.MALFORMED, 3)
+        for form in (
+            "(mct (0) -1)",
+            "(mct () -1)",
+            "(mct (--1) 2)",
+            "(mct (- 1) 2)",
+            "(mct (-01) 2)",
+            "(mct (-00) 2)",
+            "(mct (+1) 2)",
+            "(mct (-+1) 2)",
+            "(mct (-) 2)",
+            "(mct (0 -) 2)",
+            "(mct (0-1) 2)",
+            "(mct (1-) 2)",
+            "(mct -(0) 2)",
+            "(-mct (0) 2)",
+            "(mct (-100) 2)",
+        )
+    ],
+    # The other rules read the line, whatever its sign.
+    (typed("(lines 3)", "(mct (-3) 1)"), Number.NO_SUCH_LINE, 2),
+    (typed("(lines 3)", "(mct (-1) 1)"), Number.CROSSED, 2),
+    (typed("(lines 5)", "(mct (3 -3) 4)"), Number.UNSORTED, 2),
+    (typed("(lines 5)", "(mct (-3 3) 4)"), Number.UNSORTED, 2),
+    (typed("(lines 5)", "(mct (-3 -3) 4)"), Number.UNSORTED, 2),
+    (typed("(lines 5)", "(mct (-3 2) 4)"), Number.UNSORTED, 2),
+    (
+        typed("(lines 17)", "(mct (-0 1 2 3 4 5 6 7 8 9 10 11 12 13 14 -15) 16)"),
+        Number.TOO_WIDE,
+        2,
+    ),
+    (typed("(lines 4)", "(mct (-0 1 -2) 3)"), Number.NO_SPARE, 2),
+    (typed("(lines 17)", WIDE_3, *[WIDE] * 10), Number.TOO_MANY, 12),
+    (typed("(lines 17)", *[WIDE] * 9, WIDE_1, WIDE_2), Number.TOO_MANY, 12),
 ]

@@ -3,7 +3,8 @@
    areas of sizes that the input chooses, and what holds of every answer is
    checked. Map is also called with an empty answer area, and has to count the same
    gates and give the same list. What reduce gives for either of two texts says all
-   that compare has to give for both.
+   that compare has to give for both. A cascade with minus signs is also given without
+   them, and with a gate without controls for each NOT that they stand for.
 
    Memory. The archive is plain machine code, in which AddressSanitizer checks
    nothing but the memory functions of the C library. So the areas stand
@@ -59,6 +60,9 @@ static void fail(enum call call, const char *what)
     abort();
 }
 
+/* How many cascades with a minus sign were accepted. */
+static unsigned long signed_cascades;
+
 /* ---- Guidance ---- */
 
 enum { MOST_BLOCKS = 1 << 16, OUTCOMES = 1 << 12 };
@@ -106,6 +110,7 @@ static void block_reached(int signal_number, siginfo_t *info, void *context)
 static void tell_blocks(void)
 {
     fprintf(stderr, "fuzz: %u of %u basic blocks of the archive reached\n", blocks_reached, blocks);
+    fprintf(stderr, "fuzz: %lu cascades with a minus sign accepted\n", signed_cascades);
 }
 
 int LLVMFuzzerInitialize(int *argc, char ***argv)
@@ -379,6 +384,119 @@ static int same_list(const struct answer *a, const struct answer *b)
     return a->gates == b->gates && !memcmp(a->list, b->list, a->gates * sizeof(uint16_t));
 }
 
+/* ---- Minus signs ---- */
+
+/* More than a cascade of 256 gates of 15 controls, each with its NOTs, has. */
+enum { WRITTEN_ROOM = 1 << 17, MOST_MCTS = 256 };
+
+static int has_sign(const uint8_t *text, size_t length)
+{
+    return length && memchr(text, '-', length) != NULL;
+}
+
+/* The text without its minus signs. */
+static size_t put_without_signs(uint8_t *to, const uint8_t *text, size_t length)
+{
+    size_t end = 0;
+    for (size_t i = 0; i < length; i++)
+        if (text[i] != '-')
+            to[end++] = text[i];
+    return end;
+}
+
+static int is_digit(uint8_t byte)
+{
+    return byte >= '0' && byte <= '9';
+}
+
+/* Whether the minus sign at a place of an accepted line stands where one may:
+   within the brackets of the controls, directly before a number without leading
+   zero. */
+static int is_sign_of_control(const uint8_t *line, size_t place)
+{
+    static const char front[] = "(mct (";
+    const uint8_t *number = line + place + 1;
+    return place >= strlen(front) && !memcmp(line, front, strlen(front)) && !memchr(line, ')', place)
+        && (line[place - 1] == '(' || line[place - 1] == ' ') && is_digit(number[0])
+        && !(number[0] == '0' && is_digit(number[1]));
+}
+
+/* A gate without controls for each negated line of one line of a cascade. */
+static size_t put_nots(uint8_t *to, const uint8_t *line, size_t length)
+{
+    size_t end = 0;
+    for (size_t i = 0; i < length; i++) {
+        if (line[i] != '-')
+            continue;
+        if (!is_sign_of_control(line, i))
+            fail(MAP, "a minus sign that is not directly before a control");
+        end += put_word(to + end, "(mct () ");
+        for (i++; is_digit(line[i]); i++)
+            to[end++] = line[i];
+        end += put_word(to + end, ")\n");
+    }
+    return end;
+}
+
+/* Lines of a cascade, of which the first is line 1, with their NOTs written: before
+   each gate, which then has no signs, and after it. */
+static size_t put_with_nots(uint8_t *to, const uint8_t *text, size_t length)
+{
+    size_t end = 0, size;
+    for (size_t start = 0; start < length; start += size) {
+        const uint8_t *line = text + start;
+        size = (size_t)((const uint8_t *)memchr(line, '\n', length - start) - line) + 1;
+        end += put_nots(to + end, line, size);
+        end += put_without_signs(to + end, line, size);
+        end += put_nots(to + end, line, size);
+    }
+    return end;
+}
+
+/* The length of so many lines of a text. */
+static size_t length_of(const uint8_t *text, uint64_t lines)
+{
+    size_t length = 0;
+    for (; lines; length++)
+        lines -= text[length] == '\n';
+    return length;
+}
+
+/* Checks a text with a minus sign against what map gives for others, all with an
+   empty area. Rules 4 to 8 do not see the sign, and no line before the refused one
+   is refused without it. The NOTs written out count like those that signs stand
+   for: what is accepted has the same list with them, where that are not too many
+   lines, and what rule 9 refuses, up to that line, is refused by it with them. */
+static void check_signs(const uint8_t *text, size_t length, size_t list_length, int at_front, uint8_t junk,
+                        const struct answer *mapped)
+{
+    static uint8_t other[WRITTEN_ROOM];
+    static struct answer again;
+    uint64_t number = mapped->number;
+    if (number == 1 || number == 2)
+        return;
+    size_t other_length = put_without_signs(other, text, length);
+    run(MAP, other, other_length, list_length, 0, at_front, junk, &again);
+    if (number >= 4 && number <= 8 && (again.number != number || again.line != mapped->line))
+        fail(MAP, "rules 4 to 8 see a minus sign");
+    if (again.number && (!number || again.line < mapped->line))
+        fail(MAP, "a line is refused for the want of a minus sign");
+    if (number && number != 9)
+        return;
+    signed_cascades += !number;
+    other_length = put_with_nots(other, text, number ? length_of(text, mapped->line) : length);
+    size_t lines = 0;
+    for (size_t i = 0; i < other_length; i++)
+        lines += other[i] == '\n';
+    if (other_length > LONGEST_TEXT || (!number && lines > 1 + MOST_MCTS))
+        return;
+    run(MAP, other, other_length, list_length, 0, at_front, junk, &again);
+    if (again.number != number)
+        fail(MAP, "with the NOTs of its minus signs written it is judged otherwise");
+    if (!number && !same_list(&again, mapped))
+        fail(MAP, "with the NOTs of its minus signs written it gives another list");
+}
+
 /* ---- Two texts ---- */
 
 /* A text of a pair, the length of its list, and what reduce gives for it. */
@@ -529,6 +647,8 @@ static void jobs_over_one_text(const uint8_t *choices, const uint8_t *text, size
         size_t written = answers[job].bytes;
         if (!written)
             continue;
+        if (job == REDUCE && has_sign(text, length))
+            fail(job, "a circuit with a minus sign");
         /* Again with the answer area fitting exactly; or one short, and the
            shortest that is refused, which for reduce is empty. */
         if ((choices[1] & 3) == 1) {
@@ -555,6 +675,8 @@ static void jobs_over_one_text(const uint8_t *choices, const uint8_t *text, size
         fail(MAP_EMPTY_AREA, "with an area it refuses otherwise");
     if (mapped->number == 0 && !same_list(mapped, &empty))
         fail(MAP_EMPTY_AREA, "with an area it gives another list");
+    if (has_sign(text, length))
+        check_signs(text, length, list_length, at_front, junk, &empty);
 }
 
 /* Two texts in both orders, and each with itself. */
@@ -603,6 +725,9 @@ int LLVMFuzzerTestOneInput(const uint8_t *data, size_t size)
 
 #ifdef REPLAY
 
+/* The corpus has more of them than that. */
+enum { FEWEST_SIGNED = 5 };
+
 int main(int argc, char **argv)
 {
     static uint8_t data[1 << 17];
@@ -615,6 +740,10 @@ int main(int argc, char **argv)
         size_t size = fread(data, 1, sizeof data, file);
         fclose(file);
         LLVMFuzzerTestOneInput(data, size);
+    }
+    if (signed_cascades < FEWEST_SIGNED) {
+        fprintf(stderr, "fuzz: FAILED: only %lu cascades with a minus sign were accepted\n", signed_cascades);
+        return 1;
     }
     printf("%d passed, 0 failed\n", argc - 1);
     return argc > 1 ? 0 : 1;

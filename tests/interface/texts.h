@@ -22,7 +22,7 @@ struct text {
     size_t gates;
 };
 
-enum { TEXTS = 25 };
+enum { TEXTS = 31 };
 static struct text texts[TEXTS];
 
 static void add(struct text *t, const char *words) {
@@ -130,6 +130,24 @@ static void make_texts(void) {
     add(cascade(23, "a Toffoli gate twice", 9),
         "(lines 3)\n(mct (0 1) 2)\n(mct (0 1) 2)\n");
     add(cascade(24, "a gate of three controls", 14), "(lines 5)\n(mct (0 1 2) 3)\n");
+    /* Negated controls. A NOT stands before and after the gate for each, and counts;
+       nothing merges with them in one gate. */
+    add(cascade(25, "a negated control", 3), "(lines 2)\n(mct (-0) 1)\n");
+    add(cascade(26, "a Toffoli gate, both controls negated", 9),
+        "(lines 3)\n(mct (-0 -1) 2)\n");
+    /* 4,092 gates and four NOTs, just as many as may be. So many of them are quoted
+       by tests/peer. */
+    t = cascade(27, "eleven gates of 15 controls, two negated", 3480);
+    add(t, "(lines 17)\n(mct (-0 1 2 3 4 5 6 7 8 9 10 11 12 13 -14) 15)\n");
+    for (i = 1; i < 11; i++)
+        add(t, wide);
+    t = text(28, "eleven gates of 15 controls, three negated", 9, 12, 3, 2);
+    add(t, "(lines 17)\n(mct (-0 1 2 3 4 5 6 -7 8 9 10 11 12 13 -14) 15)\n");
+    for (i = 1; i < 11; i++)
+        add(t, wide);
+    add(text(29, "a sign at the target", 3, 2, 3, 2), "(lines 2)\n(mct (0) -1)\n");
+    add(text(30, "a sign in a circuit", 3, 2, 3, 3),
+        "(lines 2)\n(cn 0 1)\n(cn -0 1)\n");
 }
 
 /* The jobs over one text with one signature, and map for the quote only, which is

@@ -3,7 +3,9 @@
    the circuit that map writes has to end in the cascade's pattern with amplitude
    1, and the circuit that reduce writes has to end in the amplitudes of its
    input. Some short cascades on seven and eight lines are among them: there,
-   and not below, a half of the controls is itself made from four smaller gates.
+   and not below, a half of the controls is itself made from four smaller gates. A
+   third of the cascades have no negated controls, in a third any of them are, and in
+   a third all.
 
    A controlled V is a Hadamard gate on the target, a conditional phase kick of
    pi/2 (V+: -pi/2) and a Hadamard gate again: with the phase kick diag(1, i)
@@ -21,7 +23,9 @@
 #include <string.h>
 
 enum { USUAL_LINES = 6, MOST_LINES = 8, MOST_GATES = 4096, MOST_MCTS = 16 };
-enum { CASCADES = 400, CIRCUITS = 400 };
+enum { CASCADES = 1200, CIRCUITS = 400 };
+/* Cascades with a negated control, and cascades with controls of which none is. */
+enum { FEWEST_NEGATED = 500, FEWEST_PLAIN = 280 };
 static const double TOLERANCE = 1e-3;
 
 enum word { NOT, CN, V, VP };
@@ -38,6 +42,7 @@ struct circuit {
 
 struct mct {
     unsigned controls; /* one bit a line */
+    unsigned negated;  /* those of the controls that are met by 0 */
     int target;
 };
 
@@ -54,7 +59,9 @@ static int below(int bound)
     return (int)((state >> 33) % (unsigned)bound);
 }
 
-static void random_cascade(struct cascade *cascade)
+enum signs { NONE, ANY, ALL };
+
+static void random_cascade(struct cascade *cascade, enum signs signs)
 {
     int wide = below(12) == 0;
     int lines = wide ? 7 + below(2) : 1 + below(USUAL_LINES);
@@ -68,6 +75,8 @@ static void random_cascade(struct cascade *cascade)
             mct->controls = (unsigned)below(1 << lines) & ~(1u << mct->target);
             k = __builtin_popcount(mct->controls);
         } while ((k >= 3 && lines == k + 1) || (wide && k < 5));
+        unsigned chosen = signs == ANY ? (unsigned)below(1 << lines) : signs == ALL ? ~0u : 0;
+        mct->negated = mct->controls & chosen;
     }
 }
 
@@ -109,7 +118,7 @@ static void write_cascade(FILE *file, const struct cascade *cascade)
         fprintf(file, "(mct (");
         for (int line = 0; line < cascade->lines; line++)
             if (cascade->mcts[i].controls >> line & 1) {
-                fprintf(file, "%s%d", space, line);
+                fprintf(file, "%s%s%d", space, cascade->mcts[i].negated >> line & 1 ? "-" : "", line);
                 space = " ";
             }
         fprintf(file, ") %d)\n", cascade->mcts[i].target);
@@ -207,7 +216,7 @@ static unsigned run_cascade(const struct cascade *cascade, unsigned pattern)
 {
     for (int i = 0; i < cascade->count; i++) {
         const struct mct *mct = &cascade->mcts[i];
-        if ((pattern & mct->controls) == mct->controls)
+        if (((pattern ^ mct->negated) & mct->controls) == mct->controls)
             pattern ^= 1u << mct->target;
     }
     return pattern;
@@ -215,7 +224,7 @@ static unsigned run_cascade(const struct cascade *cascade, unsigned pattern)
 
 static struct cascade cascade;
 static struct circuit circuit, answer;
-static long passed, failed, starts;
+static long passed, failed, starts, negated, plain;
 
 static void count(int good, const char *what, const char *file)
 {
@@ -233,8 +242,20 @@ static void count(int good, const char *what, const char *file)
         fclose(text);
 }
 
+/* Counts a cascade that has negated controls, or controls of which none is. */
+static void count_signs(void)
+{
+    unsigned any_control = 0, any_negated = 0;
+    for (int i = 0; i < cascade.count; i++) {
+        any_control |= cascade.mcts[i].controls;
+        any_negated |= cascade.mcts[i].negated;
+    }
+    negated += any_negated != 0;
+    plain += any_control != 0 && any_negated == 0;
+}
+
 /* One case: a text is written to the file and run, then all starts. */
-static void one_case(int is_cascade, const char *directory, const char *file)
+static void one_case(int is_cascade, enum signs signs, const char *directory, const char *file)
 {
     complex double got[1 << MOST_LINES], expected[1 << MOST_LINES];
     FILE *text = fopen(file, "w");
@@ -243,7 +264,8 @@ static void one_case(int is_cascade, const char *directory, const char *file)
         exit(1);
     }
     if (is_cascade) {
-        random_cascade(&cascade);
+        random_cascade(&cascade, signs);
+        count_signs();
         write_cascade(text, &cascade);
     } else {
         random_circuit(&circuit);
@@ -276,11 +298,16 @@ int main(int argc, char **argv)
     char file[4096];
     snprintf(file, sizeof file, "%s/simulator.text", argv[2]);
     for (int i = 0; i < CASCADES; i++)
-        one_case(1, argv[1], file);
-    printf("simulator: map: %d cascades, %ld starts\n", CASCADES, starts);
+        one_case(1, (enum signs)(i % 3), argv[1], file);
+    printf("simulator: map: %d cascades, %ld with negated controls, %ld with others alone, %ld starts\n", CASCADES,
+           negated, plain, starts);
+    if (negated < FEWEST_NEGATED || plain < FEWEST_PLAIN) {
+        printf("simulator: FAILED: too few cascades of one kind\n");
+        failed++;
+    }
     starts = 0;
     for (int i = 0; i < CIRCUITS; i++)
-        one_case(0, argv[1], file);
+        one_case(0, NONE, argv[1], file);
     printf("simulator: reduce: %d circuits, %ld starts\n", CIRCUITS, starts);
     printf("%ld passed, %ld failed\n", passed, failed);
     return passed > 0 && failed == 0 ? 0 : 1;

@@ -6,6 +6,7 @@ use mathlib.Core.Bool.{Bool, true, false, cond, _&&_, and-true}
 use mathlib.Core.List.{List, [], _∷_, _++_}
 use Prim.Native.Nat.{ℕ, suc, _+_, _<_, _%_}
 use native.Mathlib.Omega.{arith}
+use native.Mathlib.Nat.{add-comm}
 use borrow.Author.Tests.{ne-eqb}
 use Rattle.gates.specs.declared.Gate.{Gate}
 use Rattle.gates.specs.declared.Gate.the-variants.{Not, Powered}
@@ -88,6 +89,12 @@ run-then a b ψ = run-append a b ψ
 pub powered-then : (a b : List Gate) → powered-gates (a ⨾ b) ≡ powered-gates a + powered-gates b
 unfolding _⨾_
 powered-then a b = powered-append a b
+
+-- one circuit, then another: the amplitude at x comes from g x, and there from f (g x)
+pub acts-then : (a b : List Gate) (f g : Pattern → Pattern) → Acts a f → Acts b g → Acts (a ⨾ b) (λ x. f (g x))
+unfolding Acts
+acts-then a b f g k h ψ x =
+    rw (run-then a b ψ, h (run a ψ) x, k ψ (g x), ← doubled-add (powered-gates b) (powered-gates a) (ψ (f (g x))), powered-then a b, add-comm (powered-gates a) (powered-gates b))
 
 run-one : (g : Gate) (ψ : State) → run (g ∷ []) ψ ≡ apply g ψ
 unfolding run

@@ -1,5 +1,5 @@
--- Closed examples of expansions, by computation: the reduced list for two controls, document 01's example on 5 lines, and the sixteen counts.
--- Assumes nothing.
+-- Closed examples, by computation: the reduced list for two controls, document 01's example on 5 lines, the sixteen counts, and what a gate with
+-- mixed controls makes of every pattern. Assumes nothing.
 use mathlib.Core.Path.{_≡_, refl}
 use mathlib.Core.List.{List, [], _∷_, _++_, map}
 use Prim.Native.Nat.{ℕ, zero, suc}
@@ -10,8 +10,9 @@ use Rattle.gates.specs.Circuit.{target, slot, power, powered}
 use Rattle.gates.specs.Inverse.{inverse, inverted}
 use Rattle.gates.proofs.Pushing.{merged, passes-dec, same-dec, less-dec, free-dec, turn-of, turn, place, push}
 use Rattle.gates.proofs.Theorem.{nf}
-use Rattle.meaning.specs.Pattern.{has}
+use Rattle.meaning.specs.Pattern.{flip, pattern, number, has}
 use Rattle.cascades.specs.Expansion.{_⨾_, joined, spare, expand, expansion, counts}
+use Rattle.cascades.specs.Control.{positive, negative, met, all-met, mct±}
 use Rattle.cascades.proofs.Lowest.{three-controls}
 
 -- the reduced list of `(mct (0 1) 2)`
@@ -41,3 +42,8 @@ rising (suc k) = rising k ++ (k ∷ [])
 table : map (λ k. length (expansion 17 (rising k) k)) (rising 16) ≡ counts
 unfolding expansion expand spare has _⨾_ joined inverse inverted rising
 table = refl
+
+-- `(mct (-0 1) 2)` flips line 2 exactly if line 0 is 0 and line 1 is 1: what it makes of the eight patterns of three lines, by their numbers
+mixed-pattern : map (λ k. number 3 (mct± (negative 0 ∷ positive 1 ∷ []) 2 (pattern k))) (rising 8) ≡ 0 ∷ 1 ∷ 6 ∷ 3 ∷ 4 ∷ 5 ∷ 2 ∷ 7 ∷ []
+unfolding mct± all-met met flip number pattern rising
+mixed-pattern = refl

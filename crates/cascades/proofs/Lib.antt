@@ -5,8 +5,12 @@ pub mod Lowest
 pub mod Valid
 pub mod Acting
 pub mod Expanding
-pub mod Bases
-pub mod Realises
 pub mod Every
 pub mod Counts
+pub mod SignLines
+pub mod SignFlips
+pub mod Signs
+pub mod Bases
+pub mod Realises
+pub mod Signless
 pub mod Examples

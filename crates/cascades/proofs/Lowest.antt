@@ -13,6 +13,8 @@ use Rattle.gates.specs.declared.Gate.the-variants.{Not, Powered}
 use Rattle.gates.specs.Inverse.{inverse, inverted}
 use Rattle.meaning.specs.Pattern.{has}
 use Rattle.cascades.specs.Expansion.{_⨾_, joined, c0, c1, Expands, no-control, one-control, two-controls, more-controls, spare, expand, expansion, Expandable}
+use Rattle.cascades.specs.Control.{positive, negative, control-lines, negated-lines}
+use Rattle.cascades.specs.Signs.{nots, between-nots, signed, expansion±}
 use Rattle.cascades.specs.Cascade.{Controlled, expand-all, ExpandsAll, no-gate, next-gate, AllExpandable}
 use Rattle.cascades.proofs.Halves.{halves-expandable}
 
@@ -40,9 +42,14 @@ unfolding expansion expand spare has _⨾_ joined inverse inverted
 three-controls-in-order = refl
 
 -- two gates in text order: `(mct (0) 1)` and `(mct () 0)`
-two-gates-in-order : expand-all 2 (record { controls = 0 ∷ []; target = 1 } ∷ record { controls = []; target = 0 } ∷ []) ≡ Powered 2 0 1 ∷ Not 0 ∷ []
-unfolding expand-all expansion expand _⨾_
+two-gates-in-order : expand-all 2 (record { controls = positive 0 ∷ []; target = 1 } ∷ record { controls = []; target = 0 } ∷ []) ≡ Powered 2 0 1 ∷ Not 0 ∷ []
+unfolding expand-all expansion± between-nots nots control-lines negated-lines expansion expand _⨾_
 two-gates-in-order = refl
+
+-- `(mct (-0 1 -2) 3)` on 5 lines: not 0; not 2; the sixteen gates without signs; not 0; not 2
+signed-in-order : expansion± 5 (negative 0 ∷ positive 1 ∷ negative 2 ∷ []) 3 ≡ Not 0 ∷ Not 2 ∷ three-controls ⨾ (Not 0 ∷ Not 2 ∷ [])
+unfolding expansion± between-nots nots control-lines negated-lines _⨾_
+signed-in-order = refl
 
 -- ---- the lowest line
 
@@ -90,6 +97,6 @@ module _ (n : ℕ) where
   expansion-expands cs t w = expand-expands (suc (length cs)) cs t (omega arith) w
 
   pub expand-all-expands : (gs : List Controlled) → AllExpandable n gs → ExpandsAll n gs (expand-all n gs)
-  unfolding expand-all AllExpandable
+  unfolding expand-all AllExpandable expansion±
   expand-all-expands [] w = no-gate
-  expand-all-expands (g ∷ gs) w = next-gate (expansion-expands (g .controls) (g .target) (w .0 .0)) (expand-all-expands gs (w .1))
+  expand-all-expands (g ∷ gs) w = next-gate (signed (expansion-expands (control-lines (g .controls)) (g .target) (w .0 .0))) (expand-all-expands gs (w .1))

@@ -1,5 +1,5 @@
 -- Cascades of mct gates: the pattern that a cascade makes of a pattern, its expansion, and what it is that a circuit realises it
--- (document 01, "What a gate does" and "Expansion"). Assumes nothing.
+-- (document 01, "What a gate does" and "Expansion"; document 02, order 4). Assumes nothing.
 use mathlib.Core.Path.{_≡_}
 use mathlib.Core.Logic.{_≢_}
 use mathlib.Core.Bool.{true, false}
@@ -8,34 +8,36 @@ use Prim.Native.Nat.{ℕ, _<_}
 use Rattle.gates.specs.Every.{Every}
 use Rattle.gates.specs.declared.Gate.{Gate}
 use Rattle.meaning.specs.Amplitude.{one, nought, doubled}
-use Rattle.meaning.specs.Pattern.{Pattern, mct, has, distinct}
+use Rattle.meaning.specs.Pattern.{Pattern, has, distinct}
 use Rattle.meaning.specs.State.{run, powered-gates}
-use Rattle.cascades.specs.Expansion.{_⨾_, Expands, expansion, Expandable}
+use Rattle.cascades.specs.Expansion.{_⨾_, Expandable}
+use Rattle.cascades.specs.Control.{Control, mct±, control-lines}
+use Rattle.cascades.specs.Signs.{Expands±, expansion±}
 -- the states of n lines that are surely one pattern, and patterns that agree on n lines
 unfoldable pub use Rattle.meaning.specs.Pattern.{agree}
 unfoldable pub use Rattle.meaning.specs.State.{basis}
 
 -- ---- cascades
 
--- an "mct gate": its controls and its target
+-- an "mct gate": its controls, each with its sign, and its target
 pub record Controlled : Type 0 where
-  pub controls : List ℕ
+  pub controls : List Control
   pub target : ℕ
 
 -- the cascade's pattern: what the gates, in order, make of the pattern y
 unfoldable pub after : List Controlled → Pattern → Pattern
 after [] y = y
-after (g ∷ gs) y = after gs (mct (g .controls) (g .target) y)
+after (g ∷ gs) y = after gs (mct± (g .controls) (g .target) y)
 
 -- "Gates are expanded in text order and joined"
 unfoldable pub expand-all : ℕ → List Controlled → List Gate
 expand-all n [] = []
-expand-all n (g ∷ gs) = expansion n (g .controls) (g .target) ⨾ expand-all n gs
+expand-all n (g ∷ gs) = expansion± n (g .controls) (g .target) ⨾ expand-all n gs
 
 -- the same with any choice of spare lines at each gate
 pub data ExpandsAll (n : ℕ) : List Controlled → List Gate → Type 0 where
   no-gate : ExpandsAll n [] []
-  next-gate : {g : Controlled} {gs : List Controlled} {c d : List Gate} → Expands n (g .controls) (g .target) c → ExpandsAll n gs d → ExpandsAll n (g ∷ gs) (c ⨾ d)
+  next-gate : {g : Controlled} {gs : List Controlled} {c d : List Gate} → Expands± n (g .controls) (g .target) c → ExpandsAll n gs d → ExpandsAll n (g ∷ gs) (c ⨾ d)
 
 -- ---- cascades on n lines
 
@@ -52,11 +54,11 @@ pub record OnLines (n : ℕ) (cs : List ℕ) (t : ℕ) : Type 0 where
 
 -- each gate of the cascade is on n lines
 unfoldable pub AllOnLines : ℕ → List Controlled → Type 0
-AllOnLines n = Every (λ g. OnLines n (g .controls) (g .target))
+AllOnLines n = Every (λ g. OnLines n (control-lines (g .controls)) (g .target))
 
 -- each gate of the cascade is on n lines, with a spare line where it needs one
 unfoldable pub AllExpandable : ℕ → List Controlled → Type 0
-AllExpandable n = Every (λ g. Expandable n (g .controls) (g .target) × Below n (g .controls))
+AllExpandable n = Every (λ g. Expandable n (control-lines (g .controls)) (g .target) × Below n (control-lines (g .controls)))
 
 -- ---- what is promised of a circuit made from a cascade
 
@@ -73,7 +75,7 @@ pub record Realises (n : ℕ) (gs : List Controlled) (c : List Gate) : Type 0 wh
   pub there : (y x : Pattern) → agree n x (after gs y) ≡ true → run c (basis n y) x ≡ doubled (powered-gates c) one
   -- and 0 elsewhere;
   pub elsewhere : (y x : Pattern) → agree n x (after gs y) ≡ false → run c (basis n y) x ≡ nought
-  -- a borrowed line, and every other line that is no gate's target, has its old bit at the cascade's pattern, so no pattern with another has a
+  -- a borrowed line, a negated one, and every other line that is no gate's target, has its old bit at the cascade's pattern, so no pattern with another has a
   -- share
   pub restored : (y : Pattern) (i : ℕ) → has i (targets gs) ≡ false → after gs y i ≡ y i
   pub undisturbed : (y x : Pattern) (i : ℕ) → i < n → has i (targets gs) ≡ false → x i ≢ y i → run c (basis n y) x ≡ nought

@@ -1,3 +1,5 @@
 -- The definitions of this crate, in reading order.
 pub mod Expansion
+pub mod Control
+pub mod Signs
 pub mod Cascade

@@ -1,5 +1,5 @@
-// Document 01's examples that are run and not proved. Each line of the output names a job and an example, gives the refusal number and the
-// line that document 01 says and those that came back, and says whether they agree.
+// The papers' examples that are run and not proved. Each line of the output names a job and an example, gives the refusal number and the
+// line that the papers say and those that came back, and says whether they agree.
 ghost use Prim.Native.Nat.{_≤_};
 ghost use lib.ListN.{length};
 ghost use Rattle.io.specs.Counts.{Counts};
@@ -70,11 +70,11 @@ fn add(text: &mut [u8], at: usize, bytes: &[u8]) -> usize
     end
 }
 
-// A text of 17 lines with this many gates of 15 controls, and its length.
-fn add_gates(text: &mut [u8], count: usize) -> usize
+// A text that begins so and goes on with this many gates of 15 controls, and its length.
+fn add_gates(text: &mut [u8], front: &[u8], count: usize) -> usize
     ensures { λ r. ⌜ Counts r (now (text .exit)) ⌝ }
 {
-    let mut end = add(text, 0, b"(lines 17)\n");
+    let mut end = add(text, 0, front);
     let mut i = 0;
     while i < count {
         end = add(
@@ -87,10 +87,10 @@ fn add_gates(text: &mut [u8], count: usize) -> usize
     end
 }
 
-// 17 lines, gates of 15 controls, as many as told.
-fn try_gates(example: &[u8], count: usize, number: u8, line: usize) {
+// A text that begins so, gates of 15 controls, as many as told.
+fn try_gates(example: &[u8], front: &[u8], count: usize, number: u8, line: usize) {
     let mut text = [0u8; 2048];
-    let n = add_gates(&mut text, count);
+    let n = add_gates(&mut text, front, count);
     try_cascade(example, &text[..n], number, line);
 }
 
@@ -102,8 +102,34 @@ fn try_overlong() {
 }
 
 fn main() {
-    try_gates(b"eleven gates of 15 controls on 17 lines", 11, 0, 0);
-    try_gates(b"twelve gates of 15 controls on 17 lines", 12, 9, 13);
+    try_gates(
+        b"eleven gates of 15 controls on 17 lines",
+        b"(lines 17)\n",
+        11,
+        0,
+        0,
+    );
+    try_gates(
+        b"twelve gates of 15 controls on 17 lines",
+        b"(lines 17)\n",
+        12,
+        9,
+        13,
+    );
+    try_gates(
+        b"eleven gates of 15 controls on 17 lines, two controls negated",
+        b"(lines 17)\n(mct (-0 1 2 3 4 5 6 7 8 9 10 11 12 13 -14) 15)\n",
+        10,
+        0,
+        0,
+    );
+    try_gates(
+        b"eleven gates of 15 controls on 17 lines, three controls negated",
+        b"(lines 17)\n(mct (-0 1 2 3 4 -5 6 7 8 9 10 11 12 13 -14) 15)\n",
+        10,
+        9,
+        12,
+    );
     try_cascade(
         b"16 rising controls on 17 lines",
         b"(lines 17)\n(mct (0 1 2 3 4 5 6 7 8 9 10 11 12 13 14 15) 16)\n",

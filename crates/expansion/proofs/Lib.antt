@@ -6,3 +6,4 @@ pub mod Writing
 pub mod Inverting
 pub mod Halves
 pub mod Few
+pub mod Signed

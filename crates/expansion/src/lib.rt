@@ -9,6 +9,7 @@ ghost use lib.Seq.{slice};
 ghost use Rattle.gates.specs.Code.{Code, AllCodes, code, gate, gates as gates-of};
 ghost use Rattle.gates.specs.Inverse.{inverted as inverted-gate, inverse};
 ghost use Rattle.cascades.specs.Expansion.{spare, v, v⁺, cn, _⨾_, expansion, Expandable, counts};
+ghost use Rattle.cascades.specs.Signs.{nots as nots-on, between-nots};
 ghost use Rattle.cascades.specs.Cascade.{Below};
 ghost use Rattle.expansion.specs.Marks.{marks as marks-of, unmarked};
 ghost use Rattle.expansion.specs.Written.{Written};
@@ -174,4 +175,39 @@ pub fn expand(lines: u8, controls: &[u8], target: u8, list: &mut [u16], at: usiz
     let m2_end = invert(list, m0, m0_end, m2);
     let m3 = put(list, m2_end, Gate::Powered(3, s, target));
     invert(list, m1, m1_end, m3)
+}
+
+// Writes a NOT on each of the lines, in order.
+fn nots(lines: &[u8], list: &mut [u16], at: usize) -> usize
+    requires { ⌜ at + length (now lines) ≤ length (now list) ⌝ }
+    ensures { λ r. ⌜ Written (nots-on (now (lines .entry))) (now (list .entry)) at (now (list .exit)) r ⌝ }
+{
+    let mut i = 0;
+    let mut next = at;
+    while i < lines.len() {
+        next = put(list, next, Gate::Not(lines[i]));
+        i += 1;
+    }
+    next
+}
+
+// Writes the expansion of a NOT with controls of which some are negated: a NOT on each negated line, then the expansion of the gate without
+// signs, then the same NOTs again.
+pub fn expand_signed(
+    lines: u8,
+    controls: &[u8],
+    negated: &[u8],
+    target: u8,
+    list: &mut [u16],
+    at: usize,
+) -> usize
+    requires { ⌜ lines ≤ 32 ⌝ }
+    requires { ⌜ Expandable lines (now controls) target ⌝ }
+    requires { ⌜ Below lines (now controls) ⌝ }
+    requires { ⌜ at + length (between-nots (now negated) (expansion lines (now controls) target)) ≤ length (now list) ⌝ }
+    ensures { λ r. ⌜ Written (between-nots (now (negated .entry)) (expansion lines (now (controls .entry)) target)) (now (list .entry)) at (now (list .exit)) r ⌝ }
+{
+    let first = nots(negated, list, at);
+    let end = expand(lines, controls, target, list, first);
+    nots(negated, list, end)
 }

@@ -5,5 +5,6 @@ pub mod Demands
 pub mod Numbers
 pub mod Quoting
 pub mod Before
+pub mod Signless
 pub mod Table
 pub mod Handed

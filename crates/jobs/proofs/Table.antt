@@ -1,4 +1,4 @@
--- The starred examples hold. Assumes nothing.
+-- The starred examples hold, and those of negated controls. Assumes nothing.
 use mathlib.Core.Path.{_≡_, refl, sym, ap, _∙_}
 use mathlib.Core.Bool.{Bool, true, false, not, _&&_, true≢false}
 use mathlib.Core.List.{List, [], _∷_}
@@ -16,6 +16,8 @@ use Rattle.gates.specs.Circuit.{slot, power, powered}
 use Rattle.meaning.specs.Pattern.{has}
 use Rattle.gates.specs.Inverse.{inverse, inverted}
 use Rattle.cascades.specs.Expansion.{spare, _⨾_, joined, expand, expansion}
+use Rattle.cascades.specs.Control.{control-lines, negated-lines}
+use Rattle.cascades.specs.Signs.{nots, between-nots, expansion±}
 use Rattle.meaning.proofs.Flips.{both}
 use Rattle.gates.proofs.Pushing.{merged, passes-dec, same-dec, less-dec, free-dec, turn-of, turn, place, push}
 use Rattle.gates.proofs.Theorem.{nf}
@@ -28,7 +30,7 @@ use Rattle.text.specs.Judging as J
 use Rattle.text.specs.declared.Kind.{Kind}
 use Rattle.text.specs.Judging.{Judged, turned-away, accepted, belongs, most, any-from, rising, first, head-rules, rules, or-else, judge-lines, judge-text, read-all, judge}
 use Rattle.jobs.specs.Jobs.{Job, mapping, reducing, takes, wanted, Entry, Exit, judged, written, put-out, answered, Says}
-use Rattle.jobs.specs.Examples.{typed, Answer, text, quote, away, Row, gives, expands, Shows, Gets, Correct, table}
+use Rattle.jobs.specs.Examples.{typed, Answer, text, quote, away, Row, gives, expands, Shows, Gets, Correct, table, signed-table}
 use Rattle.jobs.proofs.Habits.{judged-sized}
 use Rattle.jobs.proofs.One.{judged-accepted, passed-valid, is-nf}
 use Rattle.jobs.proofs.Demands.{text-wanted, count-wanted, says-accepted, says-turned-away, area-front, refusal-is}
@@ -124,10 +126,14 @@ unfolding tests
 tests-correct [] t = tt
 tests-correct (r ∷ rs) t = let u = both (test r) (tests rs) t in (test-correct r (u .0), tests-correct rs (u .1))
 
-pass : tests table ≡ true
-unfolding answers fits test tests typed takes has inverse inverted spare _⨾_ joined expand expansion strip second num tail pair R.control R.controls list many lines-body not-body mct-body powered-body parse whole read longer cut J.controls J.target J.gates belongs most any-from rising first head-rules rules or-else judge-lines judge-text read-all judge C.target slot power powered same-dec less-dec passes-dec merged free-dec turn-of turn place push nf ℕ-discrete decLt digits spaced one two word render rendered circuit-text
+pass : (tests table && tests signed-table) ≡ true
+unfolding answers fits test tests typed takes has inverse inverted spare _⨾_ joined expand expansion control-lines negated-lines nots between-nots expansion± strip second num tail pair R.signed R.control R.controls list many lines-body not-body mct-body powered-body parse whole read longer cut J.controls J.target J.gates belongs most any-from rising first head-rules rules or-else judge-lines judge-text read-all judge C.target slot power powered same-dec less-dec passes-dec merged free-dec turn-of turn place push nf ℕ-discrete decLt digits spaced one two word render rendered circuit-text
 pass = refl
 
 -- document 01's starred examples
 pub examples : Every Correct table
-examples = tests-correct table pass
+examples = tests-correct table (both (tests table) (tests signed-table) pass .0)
+
+-- those of order 4
+pub signed-examples : Every Correct signed-table
+signed-examples = tests-correct signed-table (both (tests table) (tests signed-table) pass .1)

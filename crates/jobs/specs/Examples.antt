@@ -1,4 +1,4 @@
--- Document 01's starred examples, as one table. Assumes nothing.
+-- Document 01's starred examples, as one table, and those of negated controls (document 02, order 4). Assumes nothing.
 use Prim.Native.Nat.{ℕ, _≤_}
 use Prim.Native.String.{String}
 use mathlib.Core.Path.{_≡_}
@@ -55,4 +55,15 @@ table =
     ∷ gives reducing ("(lines 3)" ∷ "(cn 0 1)" ∷ "(cn 1 2)" ∷ "(cn 0 1)" ∷ []) (text ("(lines 3)" ∷ "(cn 0 1)" ∷ "(cn 1 2)" ∷ "(cn 0 1)" ∷ []) 3 37)
     ∷ gives reducing ("(lines 2)" ∷ "(cn 0 1)" ∷ "(not 1)" ∷ []) (text ("(lines 2)" ∷ "(not 1)" ∷ "(cn 0 1)" ∷ []) 2 27)
     ∷ gives reducing ("(lines 2)" ∷ "(not 0)" ∷ "(cn 0 1)" ∷ "(not 0)" ∷ []) (text ("(lines 2)" ∷ "(not 0)" ∷ "(cn 0 1)" ∷ "(not 0)" ∷ []) 3 35)
+    ∷ []
+
+-- negated controls: a NOT before the expansion and again after it, and a list whose NOTs stand where passes let them
+abbrev pub signed-table : List Row
+signed-table =
+    gives mapping ("(lines 2)" ∷ "(mct (-0) 1)" ∷ []) (text ("(lines 2)" ∷ "(not 0)" ∷ "(cn 0 1)" ∷ "(not 0)" ∷ []) 3 35)
+    ∷ gives mapping ("(lines 3)" ∷ "(mct (-0 -1) 2)" ∷ [])
+    (text ("(lines 3)" ∷ "(not 0)" ∷ "(not 1)" ∷ "(v 0 2)" ∷ "(v 1 2)" ∷ "(cn 0 1)" ∷ "(vp 1 2)" ∷ "(not 1)" ∷ "(cn 0 1)" ∷ "(not 0)" ∷ []) 9 85)
+    ∷ gives mapping ("(lines 3)" ∷ "(mct (-0 -1) 2)" ∷ []) (quote 9)
+    ∷ gives mapping ("(lines 2)" ∷ "(mct (-0) 1)" ∷ "(mct (0) 1)" ∷ []) (text ("(lines 2)" ∷ "(not 0)" ∷ "(cn 0 1)" ∷ "(not 0)" ∷ "(cn 0 1)" ∷ []) 4 44)
+    ∷ gives mapping ("(lines 4)" ∷ "(mct (-0 1 -2) 3)" ∷ []) (away 8 2)
     ∷ []

@@ -5,6 +5,7 @@ use mathlib.Core.List.{List, _∷_, _++_}
 use Prim.Native.Nat.{ℕ, _+_}
 use native.Mathlib.Omega.{arith}
 use Rattle.gates.specs.declared.Gate.{Gate}
+use Rattle.cascades.specs.declared.Control.{Control}
 use Rattle.text.specs.declared.Refusal.{Refusal}
 use Rattle.text.specs.declared.Refusal.the-variants.{Malformed}
 use Rattle.text.specs.declared.Head.{Head}
@@ -80,11 +81,11 @@ gate-lines = record { in-kind = in-kind; others = others }
 pub mct-lines : Only Cascade only-mct (λ p. mct (p .0) (p .1))
 mct-lines = record { in-kind = in-kind; others = others }
   where
-    in-kind : (x : Got Form) {p : List ℕ × ℕ} {s : List ℕ} → only-mct x ≡ got p s → x ≡ got (mct (p .0) (p .1)) s
+    in-kind : (x : Got Form) {p : List Control × ℕ} {s : List ℕ} → only-mct x ≡ got p s → x ≡ got (mct (p .0) (p .1)) s
     in-kind none e = absurd (unfold only-mct in none-got e)
     in-kind (got (lines n) r) e = absurd (unfold only-mct in none-got e)
     in-kind (got (gate g) r) e = absurd (unfold only-mct in none-got e)
-    in-kind (got (mct cs t) r) {p} {s} e = unfold only-mct in (let q : _≡_ {A = List ℕ × ℕ} (cs, t) p = cc in let u : r ≡ s = cc in rw (← q, u))
+    in-kind (got (mct cs t) r) {p} {s} e = unfold only-mct in (let q : _≡_ {A = List Control × ℕ} (cs, t) p = cc in let u : r ≡ s = cc in rw (← q, u))
 
     others : (f : Form) (s : List ℕ) → only-mct (got f s) ≡ none → belongs Cascade f ≡ false
     others (lines n) s e = unfold belongs in refl
@@ -110,7 +111,7 @@ module _ {k : Kind} {B : Type 0} {only : Got Form → Got B} {form : B → Form}
 
 -- ---- the controls, as they were gathered
 
-pub with-gathered-is : (x : Got (List ℕ × ℕ)) {a : Controls} {t : ℕ} {r : List ℕ} → with-gathered x ≡ got (a, t) r → (cs : List ℕ) × (a ≡ gathered cs) × (x ≡ got (cs, t) r)
+pub with-gathered-is : (x : Got (List Control × ℕ)) {a : Controls} {t : ℕ} {r : List ℕ} → with-gathered x ≡ got (a, t) r → (cs : List Control) × (a ≡ gathered cs) × (x ≡ got (cs, t) r)
 unfolding with-gathered
 with-gathered-is none e = absurd (none-got e)
 with-gathered-is (got p s) {a} {t} {r} e =
@@ -119,7 +120,7 @@ with-gathered-is (got p s) {a} {t} {r} e =
     let v : p .1 ≡ t = ap (λ (w : Controls × ℕ). w .1) q in
     (p .0, ap (λ (w : Controls × ℕ). w .0) (sym q), rw (u, ← v))
 
-pub with-gathered-none : (x : Got (List ℕ × ℕ)) → with-gathered x ≡ none → x ≡ none
+pub with-gathered-none : (x : Got (List Control × ℕ)) → with-gathered x ≡ none → x ≡ none
 unfolding with-gathered
 with-gathered-none none e = refl
 with-gathered-none (got p s) e = absurd (none-got (sym e))

@@ -19,18 +19,22 @@ use Rattle.text.specs.declared.Kind.the-variants.{Cascade, Circuit}
 use Rattle.text.specs.Judging.{Judged, turned-away, accepted, gates, most, controls, judge-lines, read-all, judge}
 use Rattle.text.proofs.Cursor.{at-end}
 use Rattle.text.proofs.Accepted.{Kept, good-valid, expandable}
+use Rattle.cascades.specs.declared.Control.{Control}
+use Rattle.cascades.specs.Control.{control-lines, negated-lines}
 use Rattle.cascades.specs.Expansion.{expansion, Expandable}
+use Rattle.cascades.specs.Signs.{between-nots, expansion±}
 use Rattle.cascades.specs.Cascade.{Below}
+use Rattle.cascades.proofs.SignLines.{negated-fewer}
 use Rattle.expansion.specs.Written.{Written}
 use Rattle.expansion.proofs.Writing.{one}
 use Rattle.reading.specs.declared.Controls.{Controls}
-use Rattle.reading.specs.Seen.{gathered}
-use Rattle.reading.proofs.Gathered.{count-is, listed-length, listed-is}
+use Rattle.reading.specs.Seen.{listed, gathered}
+use Rattle.reading.proofs.Gathered.{AreLines, lines-are, negated-are}
 use Rattle.loading.specs.Seen.{HasHead, keeps, fails, judge-line}
 use Rattle.loading.specs.declared.Loaded.{Loaded}
 use Rattle.loading.specs.declared.Loaded.the-variants as loaded
 use Rattle.loading.specs.declared.Progress.{Progress}
-use Rattle.loading.specs.Loaded.{LoadsTo, standing, refused-at, Begun, judged-on, Counted, Sound, Stands, Ready, Taken, controls-of, ExpansionFits}
+use Rattle.loading.specs.Loaded.{LoadsTo, standing, refused-at, Begun, judged-on, Counted, Sound, Stands, Ready, Taken, ExpansionFits}
 use Rattle.loading.proofs.Lines.{goes-on, line-judged, line-kept}
 
 -- ---- the judging goes on
@@ -144,28 +148,36 @@ gate-taken {n = n} {l = l} {g} w e d a = taken w e d a (one g l n (omega (arith,
 
 -- ---- an mct gate of a cascade, of whose controls cs there is what was gathered
 
-module _ {s : List ℕ} {at before : ℕ} {h : Head} {m : ℕ} {l : List ℕ} {a : Controls} {cs : List ℕ} {t : ℕ} {r : List ℕ} (w : Ready Cascade s at (standing at before h m) l) (g : a ≡ gathered cs) (e : keeps (mct cs t) r ≡ judge-line Cascade h before (gates-of (take m l)) (drop at s)) where
-  wide : length cs ≤ 15
+module _ {s : List ℕ} {at before : ℕ} {h : Head} {m : ℕ} {l : List ℕ} {a : Controls} {cs : List Control} {t : ℕ} {r : List ℕ} (w : Ready Cascade s at (standing at before h m) l) (g : a ≡ gathered cs) (e : keeps (mct cs t) r ≡ judge-line Cascade h before (gates-of (take m l)) (drop at s)) where
+  wide : length (control-lines cs) ≤ 15
   unfolding controls
   wide = kept w e .narrow
 
-  controls-count : a .count ≡ length cs
-  controls-count = ap (λ (b : Controls). b .count) g ∙ count-is cs
+  few : length (negated-lines cs) ≤ 16
+  few = omega (arith, negated-fewer cs, wide)
 
-  pub count-there : a .count ≤ length (a .listed)
-  count-there = omega (arith, controls-count, wide, ap (λ (b : Controls). length (b .listed)) g ∙ listed-length cs)
+  the-lines : AreLines (control-lines cs) (a .lines)
+  the-lines = rw g (lines-are cs)
 
-  are-controls : controls-of a ≡ cs
-  unfolding controls-of
-  are-controls = ap (λ (b : Controls). take (b .count) (b .listed)) g ∙ ap (λ (i : ℕ). take i (gathered cs .listed)) (count-is cs) ∙ listed-is cs (omega (arith, wide))
+  the-negated : AreLines (negated-lines cs) (a .negated)
+  the-negated = rw g (negated-are cs)
 
-  on-lines : Expandable (h .lines) cs t × Below (h .lines) cs
+  pub counts-there : (a .lines .count ≤ length (a .lines .first)) × (a .negated .count ≤ length (a .negated .first))
+  counts-there = (omega (arith, the-lines .count, the-lines .room, wide), omega (arith, the-negated .count, the-negated .room, few))
+
+  on-lines : Expandable (h .lines) (control-lines cs) t × Below (h .lines) (control-lines cs)
   on-lines = expandable (h .lines) cs t (kept w e .good)
 
-  pub expansion-fits-at : ExpansionFits h t (controls-of a) m (length l)
-  unfolding gates
-  expansion-fits-at = rw are-controls (record { narrow = w .sound .narrow; expandable = on-lines .0; below = on-lines .1; fits = omega (arith, room-left w e, w .room) })
+  are-lines : listed (a .lines) ≡ control-lines cs
+  are-lines = the-lines .first (omega (arith, wide))
 
-  pub mct-taken : {n next : ℕ} {l′ : List ℕ} → r ≡ drop next s → (at < next) × (next ≤ length s) → Written (expansion (h .lines) (controls-of a) t) l m l′ n → Taken Cascade s at (standing at before h m) l (standing next (before + 1) h n) l′
-  unfolding gates most
-  mct-taken d b x = taken w e d b (rw are-controls at x) (kept w e .few)
+  are-negated : listed (a .negated) ≡ negated-lines cs
+  are-negated = the-negated .first few
+
+  pub expansion-fits-at : ExpansionFits h t (listed (a .lines)) (listed (a .negated)) m (length l)
+  unfolding gates expansion±
+  expansion-fits-at = rw (are-lines, are-negated) (record { narrow = w .sound .narrow; expandable = on-lines .0; below = on-lines .1; fits = omega (arith, room-left w e, w .room) })
+
+  pub mct-taken : {n next : ℕ} {l′ : List ℕ} → r ≡ drop next s → (at < next) × (next ≤ length s) → Written (between-nots (listed (a .negated)) (expansion (h .lines) (listed (a .lines)) t)) l m l′ n → Taken Cascade s at (standing at before h m) l (standing next (before + 1) h n) l′
+  unfolding gates most expansion±
+  mct-taken d b x = taken w e d b (rw (are-lines, are-negated) at x) (kept w e .few)

@@ -3,7 +3,7 @@ use mathlib.Core.Path.{_≡_, refl, sym, ap, _∙_}
 use mathlib.Core.Logic.{_≢_}
 use mathlib.Core.Bool.{Bool, true, false, not, _&&_, _||_, or-false, or-self}
 use mathlib.Core.List.{List, [], _∷_, _++_}
-use Prim.Native.Nat.{ℕ, _+_, _-_, _≤_, _<_}
+use Prim.Native.Nat.{ℕ, _+_, _*_, _-_, _≤_, _<_}
 use native.Mathlib.Omega.{arith}
 use lib.ListN.{length, getD, length-append}
 use lib.Dec.{eqb, leb, ltb, leb→le}
@@ -17,13 +17,17 @@ use Rattle.text.specs.Text.{gate, mct}
 use Rattle.text.specs.declared.Kind.the-variants.{Cascade, Circuit}
 use Rattle.text.specs.Judging.{Rule, rule, first, rules, controls, target, gates, belongs, most, any-from, rising}
 use Rattle.meaning.specs.Pattern.{has}
-use Rattle.cascades.specs.Expansion.{expansion, counts}
-use Rattle.cascades.proofs.Counts.{expansion-count}
+use Rattle.cascades.specs.declared.Control.{Control}
+use Rattle.cascades.specs.Control.{control-lines, negated-lines}
+use Rattle.cascades.specs.Expansion.{counts}
+use Rattle.cascades.specs.Signs.{expansion±}
+use Rattle.cascades.proofs.SignLines.{length-control-lines}
+use Rattle.cascades.proofs.Signs.{expansion±-count}
 use Rattle.cascades.proofs.Every.{at}
 use Rattle.meaning.proofs.Flips.{neither}
 use Rattle.reading.specs.declared.Controls.{Controls}
 use Rattle.reading.specs.Seen.{gathered}
-use Rattle.reading.proofs.Gathered.{count-is, rising-is, largest-is, mark-is}
+use Rattle.reading.proofs.Gathered.{lines-are, negated-are, rising-is, largest-is, mark-is}
 use Rattle.loading.specs.Seen.{tried, over}
 
 -- ---- one of two tests is met: the first, or else it is the second that tells
@@ -60,43 +64,56 @@ unfolding first
 after r true rs qs h = refl
 after r false rs qs h = h refl
 
--- for at most 15 controls the table has the expansion's count
-over-is : (n before : ℕ) (c : List Gate) (cs : List ℕ) (t : ℕ) → ltb 15 (length cs) ≡ false → over before (length c) (length cs) ≡ (ltb 256 (before + 1) || ltb 4096 (length (c ++ expansion n cs t)))
-unfolding over
-over-is n before c cs t w =
-    let k = ltb-false 15 (length cs) w in
-    let e : length (c ++ expansion n cs t) ≡ length c + getD counts (length cs) 0 = length-append c (expansion n cs t) ∙ ap (λ (i : ℕ). length c + i) (expansion-count n cs t k) in
-    rw (le-leb (length cs) 15 k, e)
+module _ (h : Head) (cs : List Control) (t before : ℕ) (c : List Gate) where
+  abbrev ls : List ℕ
+  ls = control-lines cs
 
-pub mct-rules : (h : Head) (cs : List ℕ) (t before : ℕ) (c : List Gate) {outside crossed : Bool} → outside ≡ any-from (h .lines) (t ∷ cs) → (outside ≡ false → crossed ≡ has t cs)
-    → tried outside crossed (rising cs) (ltb 15 (length cs)) (leb 3 (length cs) && eqb (h .lines) (length cs + 1)) (over before (length c) (length cs)) ≡ first (rules Cascade h before c (mct cs t))
-unfolding rules belongs controls target gates most
-mct-rules h cs t before c {outside} {crossed} o x =
-    after NoSuchLine outside _ _ (λ p. ap (λ (b : Bool). first (rule Crossed b ∷ later (over before (length c) (length cs)))) (x p) ∙ after Crossed (has t cs) _ _ (λ _. unsorted))
-    ∙ ap (λ (b : Bool). first (rule NoSuchLine b ∷ rule Crossed (has t cs) ∷ later (ltb 256 (before + 1) || ltb 4096 (length (c ++ expansion (h .lines) cs t))))) o
-    ∙ unfold first in refl
-  where
-    later : Bool → List Rule
-    later many = rule Unsorted (not (rising cs)) ∷ rule TooWide (ltb 15 (length cs)) ∷ rule NoSpare (leb 3 (length cs) && eqb (h .lines) (length cs + 1)) ∷ rule TooMany many ∷ []
+  abbrev counted : Bool
+  counted = over before (length c) (length ls) (length (negated-lines cs))
 
-    unsorted : first (later (over before (length c) (length cs))) ≡ first (later (ltb 256 (before + 1) || ltb 4096 (length (c ++ expansion (h .lines) cs t))))
-    unsorted = after Unsorted (not (rising cs)) _ _ (λ _. after TooWide (ltb 15 (length cs)) _ _ (λ w.
-        ap (λ (b : Bool). first (rule NoSpare (leb 3 (length cs) && eqb (h .lines) (length cs + 1)) ∷ rule TooMany b ∷ [])) (over-is (h .lines) before c cs t w)))
+  abbrev made : Bool
+  made = ltb 256 (before + 1) || ltb 4096 (length (c ++ expansion± (h .lines) cs t))
 
--- the tests on what was gathered of the controls
-pub mct-tried : (h : Head) (cs : List ℕ) (t before total : ℕ) (c : List Gate) (a : Controls) {outside crossed spareless many : Bool} → 1 ≤ h .lines → h .lines ≤ 32 → a ≡ gathered cs → length c ≡ total
-    → outside ≡ (leb (h .lines) t || leb (h .lines) (a .largest)) → crossed ≡ getD (a .marks) t false → spareless ≡ (leb 3 (a .count) && eqb (h .lines) (a .count + 1)) → many ≡ over before total (a .count)
-    → tried outside crossed (a .rising) (ltb 15 (a .count)) spareless many ≡ first (rules Cascade h before c (mct cs t))
-mct-tried h cs t before total c a {outside} {crossed} low high q l o x p m =
-    rw (p, m, ap (λ (b : Controls). b .count) q ∙ count-is cs, ap (λ (b : Controls). b .rising) q ∙ rising-is cs, ← l) (mct-rules h cs t before c outside-is crossed-is)
-  where
-    outside-is : outside ≡ any-from (h .lines) (t ∷ cs)
-    outside-is = o ∙ ap (λ (b : Controls). leb (h .lines) t || leb (h .lines) (b .largest)) q ∙ ap (λ (b : Bool). leb (h .lines) t || b) (sym (largest-is (h .lines) cs low)) ∙ unfold any-from in refl
+  -- for at most 15 controls the table and the negated ones give the expansion's count
+  over-is : ltb 15 (length ls) ≡ false → counted ≡ made
+  unfolding over
+  over-is w =
+      let k = ltb-false 15 (length ls) w in
+      let n = length-control-lines cs in
+      let e : length (c ++ expansion± (h .lines) cs t) ≡ length c + getD counts (length ls) 0 + 2 * length (negated-lines cs) =
+      rw (length-append c (expansion± (h .lines) cs t), expansion±-count (h .lines) cs t (omega (arith, k, n)), n) (omega arith) in
+      rw (le-leb (length ls) 15 k, e)
 
-    crossed-is : outside ≡ false → crossed ≡ has t cs
-    crossed-is z =
-        let k = leb-false (h .lines) t (neither (leb (h .lines) t) (leb (h .lines) (a .largest)) (sym o ∙ z) .0) in
-        x ∙ ap (λ (b : Controls). getD (b .marks) t false) q ∙ mark-is cs t (omega (arith, k, high))
+  pub mct-rules : {outside crossed : Bool} → outside ≡ any-from (h .lines) (t ∷ ls) → (outside ≡ false → crossed ≡ has t ls)
+      → tried outside crossed (rising ls) (ltb 15 (length ls)) (leb 3 (length ls) && eqb (h .lines) (length ls + 1)) counted ≡ first (rules Cascade h before c (mct cs t))
+  unfolding rules belongs controls target gates most
+  mct-rules {outside} {crossed} o x =
+      after NoSuchLine outside _ _ (λ p. ap (λ (b : Bool). first (rule Crossed b ∷ later counted)) (x p) ∙ after Crossed (has t ls) _ _ (λ _. unsorted))
+      ∙ ap (λ (b : Bool). first (rule NoSuchLine b ∷ rule Crossed (has t ls) ∷ later made)) o
+      ∙ unfold first in refl
+    where
+      later : Bool → List Rule
+      later many = rule Unsorted (not (rising ls)) ∷ rule TooWide (ltb 15 (length ls)) ∷ rule NoSpare (leb 3 (length ls) && eqb (h .lines) (length ls + 1)) ∷ rule TooMany many ∷ []
+
+      unsorted : first (later counted) ≡ first (later made)
+      unsorted = after Unsorted (not (rising ls)) _ _ (λ _. after TooWide (ltb 15 (length ls)) _ _ (λ w.
+          ap (λ (b : Bool). first (rule NoSpare (leb 3 (length ls) && eqb (h .lines) (length ls + 1)) ∷ rule TooMany b ∷ [])) (over-is w)))
+
+  -- the tests on what was gathered of the controls
+  pub mct-tried : (total : ℕ) (a : Controls) {outside crossed spareless many : Bool} → 1 ≤ h .lines → h .lines ≤ 32 → a ≡ gathered cs → length c ≡ total
+      → outside ≡ (leb (h .lines) t || leb (h .lines) (a .largest)) → crossed ≡ getD (a .marks) t false → spareless ≡ (leb 3 (a .lines .count) && eqb (h .lines) (a .lines .count + 1)) → many ≡ over before total (a .lines .count) (a .negated .count)
+      → tried outside crossed (a .rising) (ltb 15 (a .lines .count)) spareless many ≡ first (rules Cascade h before c (mct cs t))
+  mct-tried total a {outside} {crossed} low high q l o x p m =
+      rw (p, m, ap (λ (b : Controls). b .lines .count) q ∙ lines-are cs .count, ap (λ (b : Controls). b .negated .count) q ∙ negated-are cs .count, ap (λ (b : Controls). b .rising) q ∙ rising-is cs, ← l)
+      (mct-rules outside-is crossed-is)
+    where
+      outside-is : outside ≡ any-from (h .lines) (t ∷ ls)
+      outside-is = o ∙ ap (λ (b : Controls). leb (h .lines) t || leb (h .lines) (b .largest)) q ∙ ap (λ (b : Bool). leb (h .lines) t || b) (sym (largest-is (h .lines) cs low)) ∙ unfold any-from in refl
+
+      crossed-is : outside ≡ false → crossed ≡ has t ls
+      crossed-is z =
+          let k = leb-false (h .lines) t (neither (leb (h .lines) t) (leb (h .lines) (a .largest)) (sym o ∙ z) .0) in
+          x ∙ ap (λ (b : Controls). getD (b .marks) t false) q ∙ mark-is cs t (omega (arith, k, high))
 
 -- ---- the tests, as the code makes them
 
@@ -110,17 +127,17 @@ spare-test n k h l = rw (le-leb 3 k h) (go (eqb k (n - 1)) refl)
     go true q = let e = eqb-true k (n - 1) q in sym (eq-eqb n (k + 1) (omega (arith, e, l)))
     go false q = let d : k ≢ n - 1 = eqb-false k (n - 1) q in sym (ne-eqb n (k + 1) (λ r. d (omega (arith, r, l))))
 
-pub over-full : (before total k : ℕ) → 256 ≤ before → true ≡ over before total k
+pub over-full : (before total k negated : ℕ) → 256 ≤ before → true ≡ over before total k negated
 unfolding over
-over-full before total k h = rw (lt-ltb 256 (before + 1) (omega arith))
+over-full before total k negated h = rw (lt-ltb 256 (before + 1) (omega arith))
 
-pub over-wide : (before total k : ℕ) → before < 256 → 15 < k → false ≡ over before total k
+pub over-wide : (before total k negated : ℕ) → before < 256 → 15 < k → false ≡ over before total k negated
 unfolding over
-over-wide before total k h l = rw (le-ltb 256 (before + 1) (omega arith), lt-leb k 15 l)
+over-wide before total k negated h l = rw (le-ltb 256 (before + 1) (omega arith), lt-leb k 15 l)
 
-pub over-table : (before total k : ℕ) → before < 256 → k ≤ 15 → ltb 4096 (total + getD counts k 0) ≡ over before total k
+pub over-table : (before total k negated : ℕ) → before < 256 → k ≤ 15 → ltb 4096 (total + getD counts k 0 + 2 * negated) ≡ over before total k negated
 unfolding over
-over-table before total k h l = rw (le-ltb 256 (before + 1) (omega arith), le-leb k 15 l)
+over-table before total k negated h l = rw (le-ltb 256 (before + 1) (omega arith), le-leb k 15 l)
 
 -- no entry of the table is large
 pub few-gates : (k : ℕ) → k ≤ 15 → getD counts k 0 ≤ 372

@@ -11,8 +11,8 @@ use Rattle.text.specs.declared.Kind.the-variants.{Cascade, Circuit}
 use Rattle.text.specs.Reading.{cut}
 use Rattle.text.specs.Judging.{Judged, turned-away, accepted, read-all, judge-lines, judge}
 use Rattle.cascades.specs.Expansion.{expansion, Expandable}
+use Rattle.cascades.specs.Signs.{between-nots}
 use Rattle.cascades.specs.Cascade.{Below}
-use Rattle.reading.specs.declared.Controls.{Controls}
 use Rattle.loading.specs.declared.Progress.{Progress}
 use Rattle.loading.specs.declared.Loaded.{Loaded}
 use Rattle.loading.specs.declared.Loaded.the-variants as loaded
@@ -95,13 +95,9 @@ pub record Taken (k : Kind) (s : List ℕ) (at : ℕ) (p : Progress) (l : List �
 
 -- ---- the expansion of an mct gate
 
--- the controls, from what was gathered of them
-unfoldable pub controls-of : Controls → List ℕ
-controls-of a = take (a .count) (a .listed)
-
--- the gate can be expanded, and its expansion written from code m on
-pub record ExpansionFits (h : Head) (t : ℕ) (cs : List ℕ) (m room : ℕ) : Type 0 where
+-- the gate with controls on the lines cs, of which these are negated, can be expanded, and its expansion written from code m on
+pub record ExpansionFits (h : Head) (t : ℕ) (cs negated : List ℕ) (m room : ℕ) : Type 0 where
   pub narrow : h .lines ≤ 32
   pub expandable : Expandable (h .lines) cs t
   pub below : Below (h .lines) cs
-  pub fits : m + length (expansion (h .lines) cs t) ≤ room
+  pub fits : m + length (between-nots negated (expansion (h .lines) cs t)) ≤ room

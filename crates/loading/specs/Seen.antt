@@ -1,10 +1,11 @@
 -- What the loader's answers say, in the terms of text's Judging. Assumes nothing.
 use mathlib.Core.Path.{_≡_}
 use mathlib.Core.List.{List, [], _∷_}
-use Prim.Native.Nat.{ℕ, _+_, _≤_, _<_}
+use Prim.Native.Nat.{ℕ, _+_, _*_, _≤_, _<_}
 use lib.ListN.{length, drop, getD}
 use lib.Dec.{leb, ltb}
 use mathlib.Core.Bool.{Bool, not, _&&_, _||_}
+use Rattle.cascades.specs.declared.Control.{Control}
 use Rattle.cascades.specs.Expansion.{counts}
 use Rattle.gates.specs.declared.Gate.{Gate}
 use Rattle.text.specs.declared.Refusal.{Refusal}
@@ -43,13 +44,14 @@ tried outside crossed up wide spareless many =
 abbrev pub GateVerdict : Head → Gate → ℕ → Verdict → Type 0
 GateVerdict h g before r = (c : List Gate) → length c ≡ before → seen-verdict r ≡ first (rules Circuit h before c (gate g))
 
--- "257th mct, expansion past 4,096 gates with this line", for a gate with k controls, by the table of counts; more than 15 break rule 7
-unfoldable pub over : ℕ → ℕ → ℕ → Bool
-over before total k = ltb 256 (before + 1) || (leb k 15 && ltb 4096 (total + getD counts k 0))
+-- "257th mct, expansion past 4,096 gates with this line", for a gate with k controls, of which so many are negated, by the table of counts;
+-- more than 15 break rule 7
+unfoldable pub over : ℕ → ℕ → ℕ → ℕ → Bool
+over before total k negated = ltb 256 (before + 1) || (leb k 15 && ltb 4096 (total + getD counts k 0 + 2 * negated))
 
 -- the verdict on an mct gate, after `before` mct gates that made any circuit c of `total` gates; of its controls cs there is what was gathered
 abbrev pub MctVerdict : Head → ℕ → Controls → ℕ → ℕ → Verdict → Type 0
-MctVerdict h t a before total r = (cs : List ℕ) (c : List Gate) → a ≡ gathered cs → length c ≡ total → seen-verdict r ≡ first (rules Cascade h before c (mct cs t))
+MctVerdict h t a before total r = (cs : List Control) (c : List Gate) → a ≡ gathered cs → length c ≡ total → seen-verdict r ≡ first (rules Cascade h before c (mct cs t))
 
 -- ---- line 1
 
@@ -102,7 +104,7 @@ GateLineOf s at h before r = (c : List Gate) → length c ≡ before → seen-ga
 -- the same of a line of a cascade, of whose controls cs there is what was gathered
 abbrev pub MctLineOf : List ℕ → ℕ → Head → ℕ → ℕ → Controls → TargetLine → Type 0
 MctLineOf s at h before total a (target-line.Target t next) =
-    (cs : List ℕ) × (a ≡ gathered cs) × ((c : List Gate) → length c ≡ total → keeps (mct cs t) (drop next s) ≡ judge-line Cascade h before c (drop at s))
+    (cs : List Control) × (a ≡ gathered cs) × ((c : List Gate) → length c ≡ total → keeps (mct cs t) (drop next s) ≡ judge-line Cascade h before c (drop at s))
 MctLineOf s at h before total a (target-line.Refused r l) = (c : List Gate) → length c ≡ total → fails r ≡ judge-line Cascade h before c (drop at s)
 
 abbrev pub mct-line-ahead : List ℕ → ℕ → ℕ → TargetLine → Type 0

@@ -16,9 +16,11 @@ ghost use lib.ListN.{length, drop, getD};
 ghost use Rattle.text.specs.declared.Kind.the-variants.{Cascade, Circuit};
 ghost use Rattle.text.specs.Judging.{judge};
 ghost use Rattle.cascades.specs.Expansion.{expansion};
+ghost use Rattle.cascades.specs.Signs.{between-nots};
 ghost use Rattle.expansion.specs.Written.{Written};
+ghost use Rattle.reading.specs.Seen.{listed};
 ghost use Rattle.loading.specs.Seen.{seen-verdict, tried, over, GateVerdict, MctVerdict, HeadLineOf, GateLineOf, gate-line-ahead, MctLineOf, mct-line-ahead};
-ghost use Rattle.loading.specs.Loaded.{LoadsTo, standing, refused-at, Begun, Ready, Taken, controls-of, ExpansionFits};
+ghost use Rattle.loading.specs.Loaded.{LoadsTo, standing, refused-at, Begun, Ready, Taken, ExpansionFits};
 
 // What the rules say of a line in form.
 pub enum Verdict {
@@ -91,10 +93,11 @@ fn no_spare(lines: u8, k: usize) -> bool
     k == (lines - 1) as usize
 }
 
-// Whether a gate with k controls is the 257th, or its expansion goes past 4,096 gates: its count is read from the table.
-fn too_many(before: usize, total: usize, k: usize) -> bool
-    requires { ⌜ total ≤ 4096 ⌝ }
-    ensures { λ r. ⌜ r ≡ over before total k ⌝ }
+// Whether a gate with k controls, some of them negated, is the 257th, or its expansion goes past 4,096 gates: its count is read from the table,
+// and there are two NOTs more for each negated control.
+fn too_many(before: usize, total: usize, k: usize, negated: usize) -> bool
+    requires { ⌜ (total ≤ 4096) × (negated ≤ k) ⌝ }
+    ensures { λ r. ⌜ r ≡ over before total k negated ⌝ }
 {
     if 256 <= before {
         return true;
@@ -102,22 +105,24 @@ fn too_many(before: usize, total: usize, k: usize) -> bool
     if 15 < k {
         return false;
     }
-    4096 < total + expansion::count(k)
+    4096 < total + expansion::count(k) + 2 * negated
 }
 
 // The rules for an mct gate, after `before` mct gates whose expansions have `total` gates.
 fn mct_rules(head: Head, t: u8, a: Controls, before: usize, total: usize) -> Verdict
     requires { ⌜ (1 ≤ head .lines) × (head .lines ≤ 32) ⌝ }
-    requires { ⌜ total ≤ 4096 ⌝ }
+    requires { ⌜ (total ≤ 4096) × (a .negated .count ≤ a .lines .count) ⌝ }
     ensures { λ r. ⌜ MctVerdict head t a before total r ⌝ }
 {
     let n = head.lines;
-    let k = a.count;
+    let lines = a.lines;
+    let k = lines.count;
+    let negated = a.negated;
     let outside = n <= t || n <= a.largest;
     let marks = a.marks;
     let crossed = marked(marks, t);
     let spareless = no_spare(n, k);
-    let many = too_many(before, total, k);
+    let many = too_many(before, total, k, negated.count);
     try_rules(outside, crossed, a.rising, 15 < k, spareless, many)
 }
 
@@ -230,13 +235,17 @@ fn next_gate(s: &[u8], at: usize, head: Head, n: usize, list: &mut [u16]) -> Pro
 
 // The expansion of an mct gate, from code m on.
 fn expand_mct(head: Head, t: u8, a: Controls, list: &mut [u16], m: usize) -> usize
-    requires { ⌜ a .count ≤ length (a .listed) ⌝ }
-    requires { ⌜ ExpansionFits head t (controls-of a) m (length (now list)) ⌝ }
-    ensures { λ r. ⌜ Written (expansion (head .lines) (controls-of a) t) (now (list .entry)) m (now (list .exit)) r ⌝ }
+    requires { ⌜ (a .lines .count ≤ length (a .lines .first)) × (a .negated .count ≤ length (a .negated .first)) ⌝ }
+    requires { ⌜ ExpansionFits head t (listed (a .lines)) (listed (a .negated)) m (length (now list)) ⌝ }
+    ensures { λ r. ⌜ Written (between-nots (listed (a .negated)) (expansion (head .lines) (listed (a .lines)) t)) (now (list .entry)) m (now (list .exit)) r ⌝ }
 {
-    let listed = a.listed;
-    let k = a.count;
-    expansion::expand(head.lines, &listed[..k], t, list, m)
+    let lines = a.lines;
+    let controls = lines.first;
+    let k = lines.count;
+    let negated = a.negated;
+    let signed = negated.first;
+    let j = negated.count;
+    expansion::expand_signed(head.lines, &controls[..k], &signed[..j], t, list, m)
 }
 
 // The line of a cascade at a place, after `before` mct gates whose expansions are the first m codes: its own expansion stands behind them.

@@ -101,14 +101,6 @@ mct-at cs t x = go (holds cs x)
     go true = flip-at t x
     go false = refl
 
-pub mct-other : (cs : List ℕ) (t i : ℕ) (x : Pattern) → i ≢ t → mct cs t x i ≡ x i
-unfolding mct
-mct-other cs t i x n = go (holds cs x)
-  where
-    go : (h : Bool) → cond h (flip t x) x i ≡ x i
-    go true = flip-other t i x n
-    go false = refl
-
 -- x with the bit of t flipped if h
 flip-if : Bool → ℕ → Pattern → Pattern
 flip-if h t x = cond h (flip t x) x

@@ -1,15 +1,25 @@
 -- The controls of an mct line, gathered one after the other: what the reader's loop and one turn of it do. Assumes nothing.
 use mathlib.Core.Path.{_≡_, refl}
-use mathlib.Core.Bool.{Bool, true, false, _&&_, _||_, and-true, and-false}
+use mathlib.Core.Bool.{Bool, true, false, cond, _&&_, _||_, and-true, and-false}
 use mathlib.Core.List.{List, _∷_}
-use Prim.Native.Nat.{ℕ, zero, suc, _-_, _≤_, _<_}
+use Prim.Native.Nat.{ℕ, zero, suc, _+_, _-_, _≤_, _<_}
 use native.Mathlib.Omega.{arith}
 use lib.ListN.{length, drop}
 use lib.Dec.{eqb, ltb}
 use borrow.Author.Tests.{eq-eqb, ne-eqb, le-ltb, lt-ltb}
+use Rattle.cascades.specs.declared.Control.{Control}
 use Rattle.text.specs.Reading.{Got, got, none, bind, control, controls}
 use Rattle.reading.specs.declared.Controls.{Controls}
-use Rattle.reading.specs.Seen.{noted, noted-all}
+use Rattle.reading.specs.Seen.{added, noted, noted-all}
+
+-- one control more is at most one negated one more
+pub noted-few : (a : Controls) (c : Control) → noted a c .negated .count ≤ a .negated .count + 1
+unfolding noted added
+noted-few a c = go (c .negated)
+  where
+    go : (b : Bool) → cond b (added (a .negated) (c .line)) (a .negated) .count ≤ a .negated .count + 1
+    go true = omega arith
+    go false = omega arith
 
 -- ---- the loop
 
@@ -18,7 +28,7 @@ module _ (s : List ℕ) (a : Controls) where
   abbrev pub rest : ℕ → ℕ → Got Controls
   rest k p = bind (controls k (drop p s)) (λ cs. got (noted-all a cs))
 
-  noted-first : (c : ℕ) (g : Got (List ℕ)) → bind (bind g (λ cs r. got (c ∷ cs) r)) (λ cs. got (noted-all a cs)) ≡ bind g (λ cs. got (noted-all (noted a c) cs))
+  noted-first : (c : Control) (g : Got (List Control)) → bind (bind g (λ cs r. got (c ∷ cs) r)) (λ cs. got (noted-all a cs)) ≡ bind g (λ cs. got (noted-all (noted a c) cs))
   unfolding noted-all
   noted-first c (got cs r) = refl
   noted-first c none = refl
@@ -28,12 +38,12 @@ module _ (s : List ℕ) (a : Controls) where
   rest-none zero p e = refl
   rest-none (suc k) p e = rw e
 
-  pub rest-last : (k p q c : ℕ) → control (drop p s) ≡ got (c, false) (drop q s) → p < length s → length s - p ≤ k → rest k p ≡ got (noted a c) (drop q s)
+  pub rest-last : (k p q : ℕ) (c : Control) → control (drop p s) ≡ got (c, false) (drop q s) → p < length s → length s - p ≤ k → rest k p ≡ got (noted a c) (drop q s)
   unfolding controls noted-all
   rest-last zero p q c e h l = absurd (omega arith)
   rest-last (suc k) p q c e h l = rw e
 
-  pub rest-more : (k p q c : ℕ) → control (drop p s) ≡ got (c, true) (drop q s) → p < length s → length s - p ≤ k
+  pub rest-more : (k p q : ℕ) (c : Control) → control (drop p s) ≡ got (c, true) (drop q s) → p < length s → length s - p ≤ k
       → (j : ℕ) × (k ≡ suc j) × (rest k p ≡ bind (controls j (drop q s)) (λ cs. got (noted-all (noted a c) cs)))
   unfolding controls
   rest-more zero p q c e h l = absurd (omega arith)

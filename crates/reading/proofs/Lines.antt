@@ -7,11 +7,12 @@ use lib.Dec.{eqb}
 use borrow.Author.Tests.{eq-eqb, eqb-true}
 use Rattle.gates.specs.declared.Gate.{Gate}
 use Rattle.gates.specs.declared.Gate.the-variants.{Not, Powered}
+use Rattle.cascades.specs.declared.Control.{Control}
 use Rattle.text.specs.Text.{Form, lines, gate, mct, bytes}
-use Rattle.text.specs.Reading.{Got, got, none, bind, if-got, strip, num, tail, pair, control, list, many, lines-body, not-body, mct-body, powered-body, parse}
+use Rattle.text.specs.Reading.{Got, got, none, bind, if-got, strip, num, tail, pair, with-sign, signed, control, list, many, lines-body, not-body, mct-body, powered-body, parse}
 use Rattle.text.proofs.Printed.{none-got}
 use Rattle.reading.specs.declared.Controls.{Controls}
-use Rattle.reading.specs.Seen.{only-head, only-gate, only-mct, gathered, all-gathered, with-gathered, delimited, two-after, or-powered}
+use Rattle.reading.specs.Seen.{only-head, only-gate, only-mct, gathered, all-gathered, with-gathered, delimited, followed, two-after, or-powered}
 
 -- ---- a text begins with at most one of two words that differ at a place that both have
 
@@ -99,19 +100,33 @@ pub two-delimited : (w s : List ℕ) → two-after w s ≡ bind (delimited w [] 
 unfolding two-after pair tail delimited strip
 two-delimited w s = sym (steps _ (strip w s) _ _ (λ _ r. steps _ (num r) _ _ (λ c q. steps _ (strip (bytes " ") q) _ _ (λ _ e. refl))))
 
-pub control-delimited : (s : List ℕ) → control s ≡ if-got {B = ℕ × Bool} (delimited [] (bytes " ") s) (λ c. got (c, true)) (bind (delimited [] (bytes ")") s) (λ c. got (c, false)))
-unfolding control delimited strip
-control-delimited s = go (num s)
+-- a control by its sign
+pub control-signed : (s : List ℕ) → control s ≡ if-got (strip (bytes "-") s) (λ _. followed true) (followed false s)
+unfolding control signed followed
+control-signed s = go (strip (bytes "-") s)
   where
-    ends : (c : ℕ) (g h : Got (Unit {0})) → if-got {B = ℕ × Bool} g (λ _. got (c, true)) (bind h (λ _. got (c, false))) ≡ if-got (bind g (λ _. got c)) (λ d. got (d, true)) (bind (bind h (λ _. got c)) (λ d. got (d, false)))
-    ends c (got a r) h = refl
-    ends c none (got a r) = refl
-    ends c none none = refl
-
-    go : (g : Got ℕ) → bind {B = ℕ × Bool} g (λ c r. if-got (strip (bytes " ") r) (λ _. got (c, true)) (bind (strip (bytes ")") r) (λ _. got (c, false))))
-        ≡ if-got (bind g (λ c r. bind (strip (bytes " ") r) (λ _. got c))) (λ c. got (c, true)) (bind (bind g (λ c r. bind (strip (bytes ")") r) (λ _. got c))) (λ c. got (c, false)))
-    go (got c r) = ends c (strip (bytes " ") r) (strip (bytes ")") r)
+    go : (g : Got (Unit {0})) → bind {B = Control × Bool} (if-got g (λ _. with-sign true) (with-sign false s)) (λ c r. if-got (strip (bytes " ") r) (λ _. got (c, true)) (bind (strip (bytes ")") r) (λ _. got (c, false)))) ≡ if-got g (λ _. followed true) (followed false s)
+    go (got a r) = refl
     go none = refl
+
+module _ (b : Bool) where
+  -- the control with this sign
+  abbrev pub control-at : ℕ → Control
+  control-at c = record { line = c; negated = b }
+
+  pub followed-delimited : (s : List ℕ) → followed b s ≡ if-got {B = Control × Bool} (delimited [] (bytes " ") s) (λ c. got (control-at c, true)) (bind (delimited [] (bytes ")") s) (λ c. got (control-at c, false)))
+  unfolding followed delimited strip
+  followed-delimited s = go (num s)
+    where
+      ends : (c : ℕ) (g h : Got (Unit {0})) → if-got {B = Control × Bool} g (λ _. got (control-at c, true)) (bind h (λ _. got (control-at c, false))) ≡ if-got (bind g (λ _. got c)) (λ d. got (control-at d, true)) (bind (bind h (λ _. got c)) (λ d. got (control-at d, false)))
+      ends c (got a r) h = refl
+      ends c none (got a r) = refl
+      ends c none none = refl
+
+      go : (g : Got ℕ) → bind {B = Control × Bool} (bind g (λ c. got (control-at c))) (λ c r. if-got (strip (bytes " ") r) (λ _. got (c, true)) (bind (strip (bytes ")") r) (λ _. got (c, false))))
+          ≡ if-got (bind g (λ c r. bind (strip (bytes " ") r) (λ _. got c))) (λ c. got (control-at c, true)) (bind (bind g (λ c r. bind (strip (bytes ")") r) (λ _. got c))) (λ c. got (control-at c, false)))
+      go (got c r) = ends c (strip (bytes " ") r) (strip (bytes ")") r)
+      go none = refl
 
 -- ---- the lines of one kind
 

@@ -10,13 +10,23 @@ use lib.ListN.{length, drop, getD, length-drop, drop-of-length-le}
 use lib.Seq.{drop-cons}
 use lib.Dec.{eqb, leb}
 use borrow.Author.Tests.{eq-eqb, ne-eqb, eqb-true, lt-leb}
-use Rattle.text.specs.Reading.{got, none, digit, num, second, strip}
+use Rattle.cascades.specs.declared.Control.{Control}
+use Rattle.text.specs.Reading.{Got, got, none, digit, num, second, strip}
 use Rattle.text.proofs.Printed.{digit-yes}
+use Rattle.reading.specs.declared.ControlForm.{ControlForm}
+use Rattle.reading.specs.declared.ControlForm.the-variants as control-form
+use Rattle.reading.specs.Seen.{control-tells}
 
 -- ---- what a callee's answer tells, once it is known which it is
 
 pub told {ℓ κ} : {A : Type ℓ} {B : Type κ} (f : A → B) {g : B} {r a : A} → f r ≡ g → r ≡ a → g ≡ f a
 told f h e = sym h ∙ ap f e
+
+-- a control that was found from a later place on
+pub control-further : (s : List ℕ) (at p : ℕ) (g h : Got (Control × Bool)) (r : ControlForm) → at ≤ p → g ≡ h → control-tells s p h r → control-tells s at g r
+control-further s at p g h (control-form.More c next) l e w = (e ∙ w .0, (omega (arith, l, w .1 .0), w .1 .1))
+control-further s at p g h (control-form.Last c next) l e w = (e ∙ w .0, (omega (arith, l, w .1 .0), w .1 .1))
+control-further s at p g h control-form.Missing l e w = e ∙ w
 
 -- ---- digits
 

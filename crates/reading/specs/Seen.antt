@@ -1,23 +1,25 @@
 -- What the cursor's answers say, in the terms of the parser in text's Reading. Assumes nothing.
 use mathlib.Core.Path.{_≡_}
 use Prim.Native.Nat.{ℕ, _+_, _≤_, _<_, max}
-use mathlib.Core.Bool.{Bool, true, false, _&&_, _||_}
+use mathlib.Core.Bool.{Bool, true, false, cond, _&&_, _||_}
 use mathlib.Core.List.{List, [], _∷_}
-use lib.ListN.{length, drop, set, replicate}
+use lib.ListN.{length, take, drop, set, replicate}
 use lib.Dec.{eqb, ltb}
 use Rattle.gates.specs.declared.Gate.{Gate}
 use Rattle.gates.specs.declared.Gate.the-variants.{Powered}
+use Rattle.cascades.specs.declared.Control.{Control}
 use Rattle.text.specs.declared.Head.{Head}
-use Rattle.text.specs.Text.{Form, lines, gate, mct}
-use Rattle.text.specs.Reading.{Got, got, none, bind, if-got, strip, num, pair}
+use Rattle.text.specs.Text.{Form, lines, gate, mct, bytes}
+use Rattle.text.specs.Reading.{Got, got, none, bind, if-got, strip, num, with-sign, pair}
 use Rattle.reading.specs.declared.Number.{Number}
 use Rattle.reading.specs.declared.Number.the-variants as number
 use Rattle.reading.specs.declared.Found.{Found}
 use Rattle.reading.specs.declared.Found.the-variants as found
 use Rattle.reading.specs.declared.Pair.{Pair}
 use Rattle.reading.specs.declared.Pair.the-variants as two
-use Rattle.reading.specs.declared.Control.{Control}
-use Rattle.reading.specs.declared.Control.the-variants as control
+use Rattle.reading.specs.declared.ControlForm.{ControlForm}
+use Rattle.reading.specs.declared.ControlForm.the-variants as control-form
+use Rattle.reading.specs.declared.LineList.{LineList}
 use Rattle.reading.specs.declared.Controls.{Controls}
 use Rattle.reading.specs.declared.GateForm.{GateForm}
 use Rattle.reading.specs.declared.GateForm.the-variants as gate-form
@@ -41,7 +43,7 @@ only-gate (got (lines n) s) = none
 only-gate (got (gate g) s) = got g s
 only-gate (got (mct cs t) s) = none
 
-unfoldable pub only-mct : Got Form → Got (List ℕ × ℕ)
+unfoldable pub only-mct : Got Form → Got (List Control × ℕ)
 only-mct none = none
 only-mct (got (lines n) s) = none
 only-mct (got (gate g) s) = none
@@ -49,30 +51,42 @@ only-mct (got (mct cs t) s) = got (cs, t) s
 
 -- ---- what is kept of the controls, one after the other
 
-unfoldable pub noted : Controls → ℕ → Controls
+-- lines in order, one more
+unfoldable pub added : LineList → ℕ → LineList
+added l c = record { count = l .count + 1; first = set (l .first) (l .count) c }
+
+unfoldable pub no-lines : LineList
+no-lines = record { count = 0; first = replicate 16 0 }
+
+-- the lines, of at most sixteen
+unfoldable pub listed : LineList → List ℕ
+listed l = take (l .count) (l .first)
+
+-- a control more: its line, by which controls rise, and its sign
+unfoldable pub noted : Controls → Control → Controls
 noted a c = record {
-  count = a .count + 1;
-  rising = a .rising && (eqb (a .count) 0 || ltb (a .last) c);
-  last = c;
-  largest = max (a .largest) c;
-  marks = set (a .marks) c true;
-  listed = set (a .listed) (a .count) c;
+  lines = added (a .lines) (c .line);
+  negated = cond (c .negated) (added (a .negated) (c .line)) (a .negated);
+  rising = a .rising && (eqb (a .lines .count) 0 || ltb (a .last) (c .line));
+  last = c .line;
+  largest = max (a .largest) (c .line);
+  marks = set (a .marks) (c .line) true;
 }
 
-unfoldable pub noted-all : Controls → List ℕ → Controls
+unfoldable pub noted-all : Controls → List Control → Controls
 noted-all a [] = a
 noted-all a (c ∷ cs) = noted-all (noted a c) cs
 
 unfoldable pub no-controls : Controls
-no-controls = record { count = 0; rising = true; last = 0; largest = 0; marks = replicate 32 false; listed = replicate 16 0 }
+no-controls = record { lines = no-lines; negated = no-lines; rising = true; last = 0; largest = 0; marks = replicate 32 false }
 
-unfoldable pub gathered : List ℕ → Controls
+unfoldable pub gathered : List Control → Controls
 gathered cs = noted-all no-controls cs
 
-unfoldable pub all-gathered : Got (List ℕ) → Got Controls
+unfoldable pub all-gathered : Got (List Control) → Got Controls
 all-gathered g = bind g (λ cs. got (gathered cs))
 
-unfoldable pub with-gathered : Got (List ℕ × ℕ) → Got (Controls × ℕ)
+unfoldable pub with-gathered : Got (List Control × ℕ) → Got (Controls × ℕ)
 with-gathered none = none
 with-gathered (got p s) = got (gathered (p .0), p .1) s
 
@@ -81,6 +95,10 @@ with-gathered (got p s) = got (gathered (p .0), p .1) s
 -- a number between fixed bytes: w before it, v after it
 unfoldable pub delimited : List ℕ → List ℕ → List ℕ → Got ℕ
 delimited w v s = bind (strip w s) (λ _ r. bind (num r) (λ x q. bind (strip v q) (λ _. got x)))
+
+-- a control whose sign was read, and whether another comes after it: a space, or `)`
+unfoldable pub followed : Bool → List ℕ → Got (Control × Bool)
+followed b s = bind (with-sign b s) (λ c r. if-got (strip (bytes " ") r) (λ _. got (c, true)) (bind (strip (bytes ")") r) (λ _. got (c, false))))
 
 -- `c t)` and the line's end, after w
 unfoldable pub two-after : List ℕ → List ℕ → Got (ℕ × ℕ)
@@ -108,10 +126,10 @@ abbrev pub pair-tells : List ℕ → ℕ → Got (ℕ × ℕ) → Pair → Type 
 pair-tells s at g (two.Are c t next) = reached s at g (c, t) next
 pair-tells s at g two.Missing = g ≡ none
 
-abbrev pub control-tells : List ℕ → ℕ → Got (ℕ × Bool) → Control → Type 0
-control-tells s at g (control.More c next) = reached s at g (c, true) next
-control-tells s at g (control.Last c next) = reached s at g (c, false) next
-control-tells s at g control.Missing = g ≡ none
+abbrev pub control-tells : List ℕ → ℕ → Got (Control × Bool) → ControlForm → Type 0
+control-tells s at g (control-form.More c next) = reached s at g (c, true) next
+control-tells s at g (control-form.Last c next) = reached s at g (c, false) next
+control-tells s at g control-form.Missing = g ≡ none
 
 -- the place alone, where a is got
 abbrev pub found-tells : {A : Type 0} → List ℕ → ℕ → Got A → A → Found → Type 0

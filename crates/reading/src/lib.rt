@@ -3,9 +3,10 @@ ghost use mathlib.Core.Path.{_≡_};
 ghost use Prim.Native.Nat.{_+_, _≤_, _<_, _^_};
 ghost use lib.ListN.{length, drop};
 ghost use Rattle.text.specs.Reading.{num, strip, control, controls, list, parse};
-ghost use Rattle.reading.specs.Seen.{only-head, only-gate, only-mct, noted, no-controls, all-gathered, with-gathered, delimited, two-after, or-powered};
+ghost use Rattle.reading.specs.Seen.{only-head, only-gate, only-mct, added, no-lines, noted, no-controls, all-gathered, with-gathered, delimited, followed, two-after, or-powered};
 ghost use Rattle.reading.specs.Seen.{number-tells, found-tells, pair-tells, control-tells};
 ghost use Rattle.reading.specs.Seen.{seen-head, seen-gate, seen-mct, head-ahead, gate-ahead, mct-ahead};
+use cascades::Control;
 use gates::Gate;
 
 // A number and the place after it.
@@ -26,21 +27,27 @@ pub enum Pair {
     Missing,
 }
 
-// What is kept of the controls of an mct line: how many there are, whether each is above the one before it, the last and the
-// largest of them, a mark for each line that is a control, and the first sixteen in order.
-pub struct Controls {
+// Lines in order: how many there are, and the first sixteen of them.
+pub struct LineList {
     pub count: usize,
+    pub first: [u8; 16],
+}
+
+// What is kept of the controls of an mct line: a mark for each line that is a control, their lines in order and those of the negated ones,
+// whether each is above the one before it, the last and the largest of them.
+pub struct Controls {
+    pub marks: [bool; 32],
+    pub lines: LineList,
+    pub negated: LineList,
     pub rising: bool,
     pub last: u8,
     pub largest: u8,
-    pub marks: [bool; 32],
-    pub listed: [u8; 16],
 }
 
 // A control and the place after the space or the bracket that follows it: more controls come after a space.
-pub enum Control {
-    More(u8, usize),
-    Last(u8, usize),
+pub enum ControlForm {
+    More(Control, usize),
+    Last(Control, usize),
     Missing,
 }
 
@@ -153,18 +160,55 @@ fn two_numbers(s: &[u8], at: usize, w: &[u8]) -> Pair
     Pair::Are(c, t, e)
 }
 
-// A control, and the space or the bracket after it.
-fn one_control(s: &[u8], at: usize) -> Control
+// The number of a control, whose sign has been read, and the space or the bracket after it.
+fn control_number(s: &[u8], at: usize, negated: bool) -> ControlForm
+    requires { ⌜ at ≤ length (now s) ⌝ }
+    ensures { λ r. ⌜ control-tells (now (s .entry)) at (followed negated (drop at (now (s .entry)))) r ⌝ }
+{
+    if let Number::Is(line, q) = delimited_number(s, at, b"", b" ") {
+        return ControlForm::More(Control { line, negated }, q);
+    }
+    let Number::Is(line, q) = delimited_number(s, at, b"", b")") else {
+        return ControlForm::Missing;
+    };
+    ControlForm::Last(Control { line, negated }, q)
+}
+
+// A control, with a minus sign directly before it or none.
+fn one_control(s: &[u8], at: usize) -> ControlForm
     requires { ⌜ at ≤ length (now s) ⌝ }
     ensures { λ r. ⌜ control-tells (now (s .entry)) at (control (drop at (now (s .entry)))) r ⌝ }
 {
-    if let Number::Is(c, q) = delimited_number(s, at, b"", b" ") {
-        return Control::More(c, q);
+    if let Found::At(p) = word(s, at, b"-") {
+        return control_number(s, p, true);
     }
-    let Number::Is(c, q) = delimited_number(s, at, b"", b")") else {
-        return Control::Missing;
-    };
-    Control::Last(c, q)
+    control_number(s, at, false)
+}
+
+// No lines.
+fn no_lines() -> LineList
+    ensures { λ r. ⌜ r ≡ no-lines ⌝ }
+{
+    LineList {
+        count: 0,
+        first: [0; 16],
+    }
+}
+
+// One line more.
+fn add(l: LineList, line: u8) -> LineList
+    requires { ⌜ l .count + 1 < 2 ^ 64 ⌝ }
+    ensures { λ r. ⌜ r ≡ added l line ⌝ }
+{
+    let n = l.count;
+    let mut first = l.first;
+    if n < 16 {
+        first[n] = line;
+    }
+    LineList {
+        count: n + 1,
+        first,
+    }
 }
 
 // What is kept of no controls.
@@ -172,46 +216,47 @@ fn no_controls() -> Controls
     ensures { λ r. ⌜ r ≡ no-controls ⌝ }
 {
     Controls {
-        count: 0,
+        lines: no_lines(),
+        negated: no_lines(),
         rising: true,
         last: 0,
         largest: 0,
         marks: [false; 32],
-        listed: [0; 16],
     }
 }
 
 // One control more.
-fn note(a: Controls, c: u8) -> Controls
-    requires { ⌜ a .count + 1 < 2 ^ 64 ⌝ }
+fn note(a: Controls, c: Control) -> Controls
+    requires { ⌜ (a .lines .count + 1 < 2 ^ 64) × (a .negated .count + 1 < 2 ^ 64) ⌝ }
     ensures { λ r. ⌜ r ≡ noted a c ⌝ }
 {
-    let n = a.count;
+    let line = c.line;
     let mut marks = a.marks;
-    if c < 32 {
-        marks[c as usize] = true;
+    if line < 32 {
+        marks[line as usize] = true;
     }
-    let mut listed = a.listed;
-    if n < 16 {
-        listed[n] = c;
+    let mut negated = a.negated;
+    if c.negated {
+        negated = add(negated, line);
     }
+    let lines = a.lines;
     let mut rising = a.rising;
-    if n != 0 {
-        if c <= a.last {
+    if lines.count != 0 {
+        if line <= a.last {
             rising = false;
         }
     }
     let mut largest = a.largest;
-    if largest < c {
-        largest = c;
+    if largest < line {
+        largest = line;
     }
     Controls {
-        count: n + 1,
+        lines: add(lines, line),
+        negated,
         rising,
-        last: c,
+        last: line,
         largest,
         marks,
-        listed,
     }
 }
 
@@ -224,17 +269,17 @@ fn gather(s: &[u8], at: usize) -> Bracketed
     let mut p = at;
     loop {
         match one_control(s, p) {
-            Control::More(c, q) => {
+            ControlForm::More(c, q) => {
                 sum = note(sum, c);
                 p = q;
             }
-            Control::Last(c, q) => {
+            ControlForm::Last(c, q) => {
                 return Bracketed {
                     end: Found::At(q),
                     controls: note(sum, c),
                 };
             }
-            Control::Missing => {
+            ControlForm::Missing => {
                 return Bracketed {
                     end: Found::Missing,
                     controls: sum,

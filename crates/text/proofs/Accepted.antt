@@ -7,19 +7,22 @@ use Prim.Native.Nat.{ℕ, _+_, _≤_, _<_}
 use native.Mathlib.Omega.{arith}
 use lib.ListN.{length}
 use lib.Dec.{eqb, leb, ltb}
-use borrow.Author.Tests.{ltb-true, ltb-false, leb-true, leb-false, eqb-false, not-false, le-leb, ne-eqb}
+use borrow.Author.Tests.{ltb-false, leb-true, leb-false, eqb-false, not-false, le-leb}
 use Rattle.gates.specs.Every.{Every}
 use Rattle.gates.proofs.Every.{every-follows}
 use Rattle.gates.specs.declared.Gate.{Gate}
 use Rattle.gates.specs.declared.Gate.the-variants.{Not, Powered}
 use Rattle.gates.specs.Circuit.{valid-not, valid-powered, AllValid}
-use Rattle.meaning.specs.Pattern.{has, distinct}
-use Rattle.cascades.specs.Expansion.{_⨾_, expansion, Expandable}
+use Rattle.meaning.specs.Pattern.{has}
+use Rattle.cascades.specs.Expansion.{_⨾_, expand, expansion, Expandable}
+use Rattle.cascades.specs.declared.Control.{Control}
+use Rattle.cascades.specs.Control.{negative, control-lines, negated-lines}
+use Rattle.cascades.specs.Signs.{nots, between-nots, expansion±}
 use Rattle.cascades.specs.Cascade.{Controlled, expand-all, Below, AllExpandable}
 use Rattle.meaning.proofs.Flips.{both, neither}
 use Rattle.cascades.proofs.Spare.{by-rules}
 use Rattle.gates.proofs.Reach.{all-valid-append}
-use Rattle.cascades.proofs.Valid.{expansion-fits}
+use Rattle.cascades.proofs.Signs.{expansion±-fits}
 use Rattle.text.specs.declared.Refusal.{Refusal}
 use Rattle.text.specs.declared.Head.{Head}
 use Rattle.text.specs.Text.{Form, lines, gate, mct, rendered, as-forms, Proper, AllProper, cascade-text, circuit-text}
@@ -28,6 +31,7 @@ use Rattle.text.specs.declared.Kind.{Kind}
 use Rattle.text.specs.declared.Kind.the-variants.{Cascade, Circuit}
 use Rattle.text.specs.Judging.{Judged, turned-away, accepted, controls, target, gates, belongs, most, any-from, rising, Found, sound, breaks, Rule, rule, first, head-rules, rules, or-else, judge-lines, judge-text, read-all, judge}
 use Rattle.text.proofs.Printed.{read-only, reads, glued, glued-cut, cut-render}
+use Rattle.text.proofs.Rising.{rising-distinct, negated-rising}
 
 -- ---- answers
 
@@ -197,29 +201,23 @@ target-below : (n t : ℕ) (cs : List ℕ) → any-from n (t ∷ cs) ≡ false �
 unfolding Below
 target-below n t cs e = all-below n (t ∷ cs) e
 
--- strictly rising controls differ
-low-out : (j c : ℕ) (cs : List ℕ) → j < c → rising (c ∷ cs) ≡ true → has j (c ∷ cs) ≡ false
-unfolding has rising
-low-out j c [] h e = rw (ne-eqb j c (λ q. omega arith))
-low-out j c (d ∷ cs) h e =
-    let u = both (ltb c d) (rising (d ∷ cs)) e in
-    let l = ltb-true c d (u .0) in
-    rw (ne-eqb j c (λ q. omega arith), low-out j d cs (omega arith) (u .1))
-
-rising-distinct : (cs : List ℕ) → rising cs ≡ true → distinct cs ≡ true
-unfolding distinct rising has
-rising-distinct [] e = refl
-rising-distinct (c ∷ []) e = refl
-rising-distinct (c ∷ d ∷ cs) e =
-    let u = both (ltb c d) (rising (d ∷ cs)) e in
-    rw (low-out c d cs (ltb-true c d (u .0)) (u .1), rising-distinct (d ∷ cs) (u .1))
-
-pub expandable : (n : ℕ) (cs : List ℕ) (t : ℕ) → Good Cascade n (mct cs t) → Expandable n cs t × Below n cs
+pub expandable : (n : ℕ) (cs : List Control) (t : ℕ) → Good Cascade n (mct cs t) → Expandable n (control-lines cs) t × Below n (control-lines cs)
 unfolding controls target
-expandable n cs t g =
+expandable n ds t g =
+    let cs = control-lines ds in
     let b = target-below n t cs (g .inside) in
     let k = length cs in
     (by-rules n cs t (b .0) (b .1) (g .apart) (rising-distinct cs (g .ordered)) (λ m. eqb-false n (k + 1) (rw (le-leb 3 k m) at (g .unnamed-line))), b .1)
+
+-- "a NOT on each negated line, rising"
+pub nots-rise : (n : ℕ) (cs : List Control) (t : ℕ) → Good Cascade n (mct cs t) → rising (negated-lines cs) ≡ true
+unfolding controls
+nots-rise n cs t g = negated-rising cs (g .ordered)
+
+-- what `(mct (-0) 1)` puts into a circuit
+signed-gates : gates 2 (mct (negative 0 ∷ []) 1) ≡ Not 0 ∷ Powered 2 0 1 ∷ Not 0 ∷ []
+unfolding gates expansion± between-nots nots control-lines negated-lines expansion expand _⨾_
+signed-gates = refl
 
 pub good-valid : (k : Kind) (n : ℕ) (f : Form) → Good k n f → AllValid n (gates n f)
 unfolding gates controls target belongs has Below
@@ -227,7 +225,7 @@ good-valid Cascade n (lines m) g = absurd (false≢true (g .belonging))
 good-valid Circuit n (lines m) g = absurd (false≢true (g .belonging))
 good-valid Cascade n (gate h) g = absurd (false≢true (g .belonging))
 good-valid Circuit n (mct cs t) g = absurd (false≢true (g .belonging))
-good-valid Cascade n (mct cs t) g = let e = expandable n cs t g in expansion-fits n cs t (e .0) (e .1)
+good-valid Cascade n (mct cs t) g = let e = expandable n cs t g in expansion±-fits n cs t (e .0) (e .1)
 good-valid Circuit n (gate (Not t)) g = (valid-not (target-below n t [] (g .inside) .0), tt)
 good-valid Circuit n (gate (Powered p c t)) g =
     let b = target-below n t (c ∷ []) (g .inside) in
@@ -273,7 +271,7 @@ mcts-of n (mct cs t ∷ fs) g =
     record {
       mcts = record { controls = cs; target = t } ∷ w .mcts;
       are = ap (λ (l : List Form). mct cs t ∷ l) (w .are);
-      make = ap (λ (l : List Gate). expansion n cs t ++ l) (w .make);
+      make = ap (λ (l : List Gate). expansion± n cs t ++ l) (w .make);
       ready = (e, w .ready);
     }
 

@@ -1,4 +1,4 @@
--- The unstarred examples, each rule, and the order of the rules, computed: one table. Assumes nothing.
+-- The unstarred examples, each rule, the order of the rules, and signs, computed: one table. Assumes nothing.
 use mathlib.Core.Path.{_≡_, refl}
 use mathlib.Core.Bool.{Bool, true, false, _&&_}
 use mathlib.Core.List.{List, [], _∷_, _++_}
@@ -8,6 +8,8 @@ use lib.ListN.{length}
 use Rattle.meaning.specs.Pattern.{has}
 use Rattle.gates.specs.Inverse.{inverse, inverted}
 use Rattle.cascades.specs.Expansion.{spare, _⨾_, joined, expand, expansion}
+use Rattle.cascades.specs.Control.{control-lines, negated-lines}
+use Rattle.cascades.specs.Signs.{nots, between-nots, expansion±}
 use Rattle.text.specs.Text.{bytes}
 use Rattle.text.specs.Reading as R
 use Rattle.text.specs.Reading.{strip, second, num, tail, pair, list, many, lines-body, not-body, mct-body, powered-body, parse, whole, read, longer, cut}
@@ -27,6 +29,13 @@ times (suc n) s = s ++ times n s
 
 abbrev m15 : List ℕ
 m15 = bytes "(mct (0 1 2 3 4 5 6 7 8 9 10 11 12 13 14) 15)\n"
+
+-- the same with two of its controls negated, and with three
+abbrev m15-two : List ℕ
+m15-two = bytes "(mct (0 1 2 3 4 -5 6 7 8 9 10 11 12 13 -14) 15)\n"
+
+abbrev m15-three : List ℕ
+m15-three = bytes "(mct (-0 1 2 3 4 -5 6 7 8 9 10 11 12 13 -14) 15)\n"
 
 unfoldable is-away : Judged → ℕ → ℕ → Bool
 is-away (turned-away r l) m k = eqb (number-of r) m && eqb l k
@@ -72,8 +81,31 @@ edges =
     ∷ away Cascade (bytes "(lines 3)\n(mct (2 1) 2)\n") 5 2
     ∷ away Cascade (bytes "(lines 32)\n(mct (0 2 1 3 4 5 6 7 8 9 10 11 12 13 14 15) 16)\n") 6 2
     ∷ away Cascade (bytes "(lines 4)\n" ++ (times 256 (bytes "(mct () 0)\n") ++ bytes "(mct (0 1 2) 3)\n")) 8 258
+    -- signs: the NOTs are counted; the line decides, by rules 4 to 8; a sign stands directly before a control and nowhere else
+    ∷ passes Cascade (bytes "(lines 17)\n" ++ (m15-two ++ times 10 m15)) 17 4096
+    ∷ away Cascade (bytes "(lines 17)\n" ++ (m15-three ++ times 10 m15)) 9 12
+    ∷ passes Cascade (bytes "(lines 2)\n(mct (-0) 1)\n") 2 3
+    ∷ passes Cascade (bytes "(lines 32)\n(mct (-0 1 -30) 31)\n") 32 20
+    ∷ away Cascade (bytes "(lines 3)\n(mct (-3) 1)\n") 4 2
+    ∷ away Cascade (bytes "(lines 3)\n(mct (-1) 1)\n") 5 2
+    ∷ away Cascade (bytes "(lines 5)\n(mct (3 -3) 4)\n") 6 2
+    ∷ away Cascade (bytes "(lines 5)\n(mct (-3 3) 4)\n") 6 2
+    ∷ away Cascade (bytes "(lines 5)\n(mct (-3 -3) 4)\n") 6 2
+    ∷ away Cascade (bytes "(lines 32)\n(mct (-0 -1 -2 -3 -4 -5 -6 -7 -8 -9 -10 -11 -12 -13 -14 -15) 16)\n") 7 2
+    ∷ away Cascade (bytes "(lines 4)\n(mct (0 -1 2) 3)\n") 8 2
+    ∷ away Cascade (bytes "(lines 3)\n(mct (--1) 2)\n") 3 2
+    ∷ away Cascade (bytes "(lines 3)\n(mct (- 1) 2)\n") 3 2
+    ∷ away Cascade (bytes "(lines 3)\n(mct (-01) 2)\n") 3 2
+    ∷ away Cascade (bytes "(lines 3)\n(mct (-) 2)\n") 3 2
+    ∷ away Cascade (bytes "(lines 3)\n(mct (1-) 2)\n") 3 2
+    ∷ away Cascade (bytes "(lines 3)\n(mct (+1) 2)\n") 3 2
+    ∷ away Cascade (bytes "(lines 3)\n(mct (1) -2)\n") 3 2
+    ∷ away Cascade (bytes "(lines -3)\n") 3 1
+    ∷ away Circuit (bytes "(lines 3)\n(not -0)\n") 3 2
+    ∷ away Circuit (bytes "(lines 3)\n(cn -0 1)\n") 3 2
+    ∷ away Circuit (bytes "(lines 3)\n(v 0 -1)\n") 3 2
     ∷ []
 
 edges-hold : all-hold edges ≡ true
-unfolding times is-away is-passed holds all-hold has inverse inverted spare _⨾_ joined expand expansion strip second num tail pair R.control R.controls list many lines-body not-body mct-body powered-body parse whole read longer cut J.controls J.target J.gates belongs most any-from rising first head-rules rules or-else judge-lines judge-text read-all judge
+unfolding times is-away is-passed holds all-hold has inverse inverted spare _⨾_ joined expand expansion strip second num tail pair R.signed control-lines negated-lines nots between-nots expansion± R.control R.controls list many lines-body not-body mct-body powered-body parse whole read longer cut J.controls J.target J.gates belongs most any-from rising first head-rules rules or-else judge-lines judge-text read-all judge
 edges-hold = refl

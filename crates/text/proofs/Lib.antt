@@ -1,7 +1,10 @@
 -- The laws and theorems of this crate, in reading order.
 pub mod Printed
+pub mod Rising
 pub mod Accepted
 pub mod Written
 pub mod Cursor
 pub mod Edges
 pub mod Unambiguous
+pub mod Unsigned
+pub mod Signless

@@ -10,15 +10,17 @@ use lib.Dec.{eqb, ltb, leb}
 use borrow.Author.Tests.{ne-eqb, le-leb, le-ltb, lt-ltb, eqb-true, eqb-false, leb-true, ltb-true, ltb-false, not-true}
 use Rattle.gates.specs.declared.Gate.the-variants.{Not, Powered}
 use Rattle.meaning.proofs.Flips.{both}
-use Rattle.text.specs.Text.{Short, Proper, rendered, AllProper, Form, lines, gate, mct, bytes, digits, spaced, one, two, word, render}
-use Rattle.text.specs.Reading.{Got, got, none, bind, if-got, strip, digit, second, num, tail, pair, control, controls, list, many, lines-body, not-body, mct-body, powered-body, parse, in-form, unformed, whole, read, longer, cut}
+use Rattle.cascades.specs.declared.Control.{Control}
+use Rattle.cascades.specs.Control.{negative}
+use Rattle.text.specs.Text.{Short, Proper, rendered, AllProper, Form, lines, gate, mct, bytes, digits, written, spaced, one, two, word, render}
+use Rattle.text.specs.Reading.{Got, got, none, bind, if-got, strip, digit, second, num, tail, pair, signed, control, controls, list, many, lines-body, not-body, mct-body, powered-body, parse, in-form, unformed, whole, read, longer, cut}
 
 -- ---- booleans and answers
 
 pub none-got : {A : Type 0} {a : A} {s : List ℕ} → none ≡ got a s → ⊥
 none-got e = let z : _≡_ {A = ℕ} 0 1 = cc in omega arith
 
-unbind : {A B : Type 0} (g : Got A) (f : A → List ℕ → Got B) {b : B} {r : List ℕ} → bind g f ≡ got b r → (a : A) × (s : List ℕ) × (g ≡ got a s) × (f a s ≡ got b r)
+pub unbind : {A B : Type 0} (g : Got A) (f : A → List ℕ → Got B) {b : B} {r : List ℕ} → bind g f ≡ got b r → (a : A) × (s : List ℕ) × (g ≡ got a s) × (f a s ≡ got b r)
 unbind (got a s) f e = (a, s, refl, e)
 unbind none f e = absurd (none-got e)
 
@@ -27,12 +29,12 @@ unelse (got a s) f z e = inl (a, s, refl, e)
 unelse none f z e = inr e
 
 -- the same answer, and the same bytes after it
-got-is : {A : Type 0} {a b : A} {s t : List ℕ} → got a s ≡ got b t → (a ≡ b) × (s ≡ t)
+pub got-is : {A : Type 0} {a b : A} {s t : List ℕ} → got a s ≡ got b t → (a ≡ b) × (s ≡ t)
 got-is e = (cc, cc)
 
 -- ---- words
 
-strip-sound : (w s r : List ℕ) → strip w s ≡ got tt r → s ≡ w ++ r
+pub strip-sound : (w s r : List ℕ) → strip w s ≡ got tt r → s ≡ w ++ r
 unfolding strip
 strip-sound [] s r e = cc
 strip-sound (a ∷ w) [] r e = absurd (none-got e)
@@ -139,7 +141,7 @@ tail-sound s t r e =
         (n .0 ∙ ap (λ (l : List ℕ). digits t′ ++ l) (strip-sound (41 ∷ 10 ∷ []) s′ r′ e₂) ∙ rw (y, z, append-assoc (digits t) (41 ∷ 10 ∷ []) r), rw y at (n .1))
 
 -- what comes before a space and the target
-target-sound : {A : Type 0} (g : Got A) {a : A} {t : ℕ} {r : List ℕ} → bind {B = A × ℕ} g (λ b s. bind (strip (32 ∷ []) s) (λ _ s′. bind (tail s′) (λ u s″. got (b, u) s″))) ≡ got (a, t) r → (g ≡ got a (32 ∷ one t ++ r)) × (t < 100)
+pub target-sound : {A : Type 0} (g : Got A) {a : A} {t : ℕ} {r : List ℕ} → bind {B = A × ℕ} g (λ b s. bind (strip (32 ∷ []) s) (λ _ s′. bind (tail s′) (λ u s″. got (b, u) s″))) ≡ got (a, t) r → (g ≡ got a (32 ∷ one t ++ r)) × (t < 100)
 target-sound {A} g {a} {t} {r} e =
     let w = unbind g _ e in
     let x = unbind (strip (32 ∷ []) (w .1)) _ (w .3) in
@@ -166,60 +168,112 @@ pair-sound s c t r e =
 
 -- ---- controls
 
-control-more : (c : ℕ) (s : List ℕ) → c < 100 → control (digits c ++ 32 ∷ s) ≡ got (c, true) s
-unfolding control strip
-control-more c s h = rw (num-digits c 32 s h refl)
+-- `-0` and `-12` are controls with a sign; of `--1` there is none; a sign is written, and stands at no target
+minus-zero : signed (bytes "-0)") ≡ got (negative 0) (bytes ")")
+unfolding signed strip num second
+minus-zero = refl
 
-control-last : (c : ℕ) (s : List ℕ) → c < 100 → control (digits c ++ 41 ∷ s) ≡ got (c, false) s
-unfolding control strip
-control-last c s h = rw (num-digits c 41 s h refl)
+minus-written : written (negative 12) ≡ bytes "-12"
+unfolding written digits
+minus-written = refl
 
-controls-spaced : (k : ℕ) (c : ℕ) (cs r : List ℕ) → length cs < k → Short (c ∷ cs) → controls k (spaced (c ∷ cs) ++ 41 ∷ r) ≡ got (c ∷ cs) r
+minus-twice : signed (bytes "--1)") ≡ none
+unfolding signed strip num second
+minus-twice = refl
+
+minus-at-target : many (bytes ") -1)\n") ≡ none
+unfolding many list strip tail num second signed
+minus-at-target = refl
+
+pub strip-minus : (c : ℕ) (s : List ℕ) → strip (45 ∷ []) (digits c ++ s) ≡ none
+unfolding strip digits
+strip-minus c s = go (ltb c 10) refl
+  where
+    go : (t : Bool) → ltb c 10 ≡ t → strip (45 ∷ []) (cond t ((48 + c) ∷ []) ((48 + c / 10) ∷ (48 + c % 10) ∷ []) ++ s) ≡ none
+    go true e = rw (ne-eqb (48 + c) 45 (λ q. omega arith))
+    go false e = rw (ne-eqb (48 + c / 10) 45 (λ q. omega arith))
+
+signed-written : (c : Control) (b : ℕ) (s : List ℕ) → c .line < 100 → digit b ≡ false → signed (written c ++ b ∷ s) ≡ got c (b ∷ s)
+unfolding signed written
+signed-written c b s h d = go (c .negated) refl
+  where
+    go : (g : Bool) → c .negated ≡ g → signed (cond g (bytes "-" ++ digits (c .line)) (digits (c .line)) ++ b ∷ s) ≡ got c (b ∷ s)
+    go true e = unfold strip in rw (num-digits (c .line) b s h d, ← e)
+    go false e = rw (strip-minus (c .line) (b ∷ s), num-digits (c .line) b s h d, ← e)
+
+signed-sound : (s : List ℕ) (c : Control) (r : List ℕ) → signed s ≡ got c r → (s ≡ written c ++ r) × (c .line < 100)
+unfolding signed
+signed-sound s c r e = go (unelse (strip (45 ∷ []) s) _ _ e)
+  where
+    sign : (g : Bool) (n : ℕ) (s′ r′ : List ℕ) → s′ ≡ digits n ++ r′ → cond g (45 ∷ s′) s′ ≡ written (record { line = n; negated = g }) ++ r′
+    sign true n s′ r′ q = unfold written in ap (λ (l : List ℕ). 45 ∷ l) q
+    sign false n s′ r′ q = unfold written in q
+
+    -- a number n after the bytes of the sign g
+    done : (g : Bool) (n : ℕ) (s′ r′ : List ℕ) → num s′ ≡ got n r′ → _≡_ {A = Got Control} (got (record { line = n; negated = g }) r′) (got c r) → (cond g (45 ∷ s′) s′ ≡ written c ++ r) × (c .line < 100)
+    done g n s′ r′ e₁ e₂ =
+        let q = num-sound s′ n r′ e₁ in
+        let k = got-is e₂ in
+        rw (← (k .0), ← (k .1)) (sign g n s′ r′ (q .0), q .1)
+
+    go : ((a : Unit {0}) × (s′ : List ℕ) × (strip (45 ∷ []) s ≡ got a s′) × (_≡_ {A = Got Control} (bind (num s′) (λ n. got (record { line = n; negated = true }))) (got c r))) ⊎ (_≡_ {A = Got Control} (bind (num s) (λ n. got (record { line = n; negated = false }))) (got c r)) → (s ≡ written c ++ r) × (c .line < 100)
+    go (inl x) = let w = unbind (num (x .1)) _ (x .3) in let d = done true (w .0) (x .1) (w .1) (w .2) (w .3) in (strip-sound (45 ∷ []) s (x .1) (x .2) ∙ d .0, d .1)
+    go (inr y) = let w = unbind (num s) _ y in done false (w .0) s (w .1) (w .2) (w .3)
+
+control-more : (c : Control) (s : List ℕ) → c .line < 100 → control (written c ++ 32 ∷ s) ≡ got (c, true) s
+unfolding control strip
+control-more c s h = rw (signed-written c 32 s h refl)
+
+control-last : (c : Control) (s : List ℕ) → c .line < 100 → control (written c ++ 41 ∷ s) ≡ got (c, false) s
+unfolding control strip
+control-last c s h = rw (signed-written c 41 s h refl)
+
+controls-spaced : (k : ℕ) (c : Control) (cs : List Control) (r : List ℕ) → length cs < k → Short (c ∷ cs) → controls k (spaced (c ∷ cs) ++ 41 ∷ r) ≡ got (c ∷ cs) r
 unfolding controls spaced
 controls-spaced zero c cs r h m = absurd (omega arith)
 controls-spaced (suc k) c [] r h m = rw (control-last c r (m .0))
 controls-spaced (suc k) c (d ∷ cs) r h m =
-    rw (append-assoc (digits c) (32 ∷ spaced (d ∷ cs)) (41 ∷ r), control-more c (spaced (d ∷ cs) ++ 41 ∷ r) (m .0), controls-spaced k d cs r (omega arith) (m .1))
+    rw (append-assoc (written c) (32 ∷ spaced (d ∷ cs)) (41 ∷ r), control-more c (spaced (d ∷ cs) ++ 41 ∷ r) (m .0), controls-spaced k d cs r (omega arith) (m .1))
 
-control-sound : (s : List ℕ) (c : ℕ) (b : Bool) (r : List ℕ) → control s ≡ got (c, b) r → (s ≡ digits c ++ (cond b 32 41) ∷ r) × (c < 100)
+pub control-sound : (s : List ℕ) (c : Control) (b : Bool) (r : List ℕ) → control s ≡ got (c, b) r → (s ≡ written c ++ (cond b 32 41) ∷ r) × (c .line < 100)
 unfolding control
-control-sound s c b r e = let w = unbind (num s) _ e in go (w .0) (w .1) (w .2) (unelse (strip (32 ∷ []) (w .1)) _ _ (w .3))
+control-sound s c b r e = let w = unbind (signed s) _ e in go (w .0) (w .1) (w .2) (unelse (strip (32 ∷ []) (w .1)) _ _ (w .3))
   where
-    done : (c′ : ℕ) (b′ : Bool) (s′ r′ : List ℕ) → num s ≡ got c′ s′ → strip (cond b′ 32 41 ∷ []) s′ ≡ got tt r′ → _≡_ {A = Got (ℕ × Bool)} (got (c′, b′) r′) (got (c, b) r) → (s ≡ digits c ++ (cond b 32 41) ∷ r) × (c < 100)
+    done : (c′ : Control) (b′ : Bool) (s′ r′ : List ℕ) → signed s ≡ got c′ s′ → strip (cond b′ 32 41 ∷ []) s′ ≡ got tt r′ → _≡_ {A = Got (Control × Bool)} (got (c′, b′) r′) (got (c, b) r) → (s ≡ written c ++ (cond b 32 41) ∷ r) × (c .line < 100)
     done c′ b′ s′ r′ e₁ e₂ e₃ =
-        let n = num-sound s c′ s′ e₁ in
-        let i : c′ ≡ c = ap (λ (p : ℕ × Bool). p .0) (got-is e₃ .0) in
-        let j : b′ ≡ b = ap (λ (p : ℕ × Bool). p .1) (got-is e₃ .0) in
+        let n = signed-sound s c′ s′ e₁ in
+        let i : c′ ≡ c = ap (λ (p : Control × Bool). p .0) (got-is e₃ .0) in
+        let j : b′ ≡ b = ap (λ (p : Control × Bool). p .1) (got-is e₃ .0) in
         let z : r′ ≡ r = cc in
-        (n .0 ∙ ap (λ (l : List ℕ). digits c′ ++ l) (strip-sound (cond b′ 32 41 ∷ []) s′ r′ e₂) ∙ rw (i, j, z), rw i at (n .1))
+        (n .0 ∙ ap (λ (l : List ℕ). written c′ ++ l) (strip-sound (cond b′ 32 41 ∷ []) s′ r′ e₂) ∙ rw (i, j, z), rw i at (n .1))
 
-    go : (c′ : ℕ) (s′ : List ℕ) → num s ≡ got c′ s′
-        → ((a : Unit {0}) × (s″ : List ℕ) × (strip (32 ∷ []) s′ ≡ got a s″) × (_≡_ {A = Got (ℕ × Bool)} (got (c′, true) s″) (got (c, b) r))) ⊎ (_≡_ {A = Got (ℕ × Bool)} (bind (strip (41 ∷ []) s′) (λ _ s″. got (c′, false) s″)) (got (c, b) r))
-        → (s ≡ digits c ++ (cond b 32 41) ∷ r) × (c < 100)
+    go : (c′ : Control) (s′ : List ℕ) → signed s ≡ got c′ s′
+        → ((a : Unit {0}) × (s″ : List ℕ) × (strip (32 ∷ []) s′ ≡ got a s″) × (_≡_ {A = Got (Control × Bool)} (got (c′, true) s″) (got (c, b) r))) ⊎ (_≡_ {A = Got (Control × Bool)} (bind (strip (41 ∷ []) s′) (λ _ s″. got (c′, false) s″)) (got (c, b) r))
+        → (s ≡ written c ++ (cond b 32 41) ∷ r) × (c .line < 100)
     go c′ s′ e₁ (inl x) = done c′ true s′ (x .1) e₁ (x .2) (x .3)
     go c′ s′ e₁ (inr y) = let x = unbind (strip (41 ∷ []) s′) _ y in done c′ false s′ (x .1) e₁ (x .2) (x .3)
 
 -- a list of controls that is not empty
-abbrev Some : List ℕ → Type 0
+abbrev Some : List Control → Type 0
 Some [] = ⊥
 Some (c ∷ cs) = Unit {0}
 
-controls-sound : (k : ℕ) (s cs r : List ℕ) → controls k s ≡ got cs r → (s ≡ spaced cs ++ 41 ∷ r) × Short cs × Some cs
+controls-sound : (k : ℕ) (s : List ℕ) (cs : List Control) (r : List ℕ) → controls k s ≡ got cs r → (s ≡ spaced cs ++ 41 ∷ r) × Short cs × Some cs
 unfolding controls spaced
 controls-sound zero s cs r e = absurd (none-got e)
 controls-sound (suc k) s cs r e =
     let w = unbind (control s) _ e in
     go (w .0 .0) (w .0 .1) (w .1) (w .2) (w .3) (controls-sound k)
   where
-    more : (c : ℕ) (s′ ds r′ : List ℕ) → control s ≡ got (c, true) s′ → (s′ ≡ spaced ds ++ 41 ∷ r′) × Short ds × Some ds → (s ≡ spaced (c ∷ ds) ++ 41 ∷ r′) × Short (c ∷ ds) × Some (c ∷ ds)
+    more : (c : Control) (s′ : List ℕ) (ds : List Control) (r′ : List ℕ) → control s ≡ got (c, true) s′ → (s′ ≡ spaced ds ++ 41 ∷ r′) × Short ds × Some ds → (s ≡ spaced (c ∷ ds) ++ 41 ∷ r′) × Short (c ∷ ds) × Some (c ∷ ds)
     more c s′ [] r′ e₁ h = absurd (h .2)
     more c s′ (d ∷ ds) r′ e₁ h =
         let q = control-sound s c true s′ e₁ in
-        (q .0 ∙ ap (λ (l : List ℕ). digits c ++ 32 ∷ l) (h .0) ∙ sym (append-assoc (digits c) (32 ∷ spaced (d ∷ ds)) (41 ∷ r′)), (q .1, h .1), tt)
+        (q .0 ∙ ap (λ (l : List ℕ). written c ++ 32 ∷ l) (h .0) ∙ sym (append-assoc (written c) (32 ∷ spaced (d ∷ ds)) (41 ∷ r′)), (q .1, h .1), tt)
 
-    go : (c : ℕ) (b : Bool) (s′ : List ℕ) → control s ≡ got (c, b) s′
+    go : (c : Control) (b : Bool) (s′ : List ℕ) → control s ≡ got (c, b) s′
         → cond b (bind (controls k s′) (λ ds s″. got (c ∷ ds) s″)) (got (c ∷ []) s′) ≡ got cs r
-        → ((s ds r : List ℕ) → controls k s ≡ got ds r → (s ≡ spaced ds ++ 41 ∷ r) × Short ds × Some ds)
+        → ((s : List ℕ) (ds : List Control) (r : List ℕ) → controls k s ≡ got ds r → (s ≡ spaced ds ++ 41 ∷ r) × Short ds × Some ds)
         → (s ≡ spaced cs ++ 41 ∷ r) × Short cs × Some cs
     go c false s′ e₁ e₂ f =
         let q = control-sound s c false s′ e₁ in
@@ -230,7 +284,7 @@ controls-sound (suc k) s cs r e =
         let w = unbind (controls k s′) _ e₂ in
         let y : c ∷ w .0 ≡ cs = cc in
         let z : w .1 ≡ r = cc in
-        subst₂ (λ (l m : List ℕ). (s ≡ spaced l ++ 41 ∷ m) × Short l × Some l) y z (more c s′ (w .0) (w .1) e₁ (f s′ (w .0) (w .1) (w .2)))
+        subst₂ (λ (l : List Control) (m : List ℕ). (s ≡ spaced l ++ 41 ∷ m) × Short l × Some l) y z (more c s′ (w .0) (w .1) e₁ (f s′ (w .0) (w .1) (w .2)))
 
 -- a number does not begin with `)`
 strip-digits : (c : ℕ) (s : List ℕ) → strip (41 ∷ []) (digits c ++ s) ≡ none
@@ -241,32 +295,40 @@ strip-digits c s = go (ltb c 10) refl
     go true e = rw (ne-eqb (48 + c) 41 (λ q. omega arith))
     go false e = rw (ne-eqb (48 + c / 10) 41 (λ q. omega arith))
 
+strip-written : (c : Control) (s : List ℕ) → strip (41 ∷ []) (written c ++ s) ≡ none
+unfolding written
+strip-written c s = go (c .negated)
+  where
+    go : (g : Bool) → strip (41 ∷ []) (cond g (bytes "-" ++ digits (c .line)) (digits (c .line)) ++ s) ≡ none
+    go true = unfold strip in refl
+    go false = strip-digits (c .line) s
+
 -- the printed controls are none shorter than their number
-spaced-long : (c : ℕ) (cs r : List ℕ) → length cs < length (spaced (c ∷ cs) ++ 41 ∷ r)
+spaced-long : (c : Control) (cs : List Control) (r : List ℕ) → length cs < length (spaced (c ∷ cs) ++ 41 ∷ r)
 unfolding spaced
-spaced-long c [] r = rw (length-append (digits c) (41 ∷ r)) (omega arith)
+spaced-long c [] r = rw (length-append (written c) (41 ∷ r)) (omega arith)
 spaced-long c (d ∷ cs) r =
     let h = spaced-long d cs r in
-    rw (append-assoc (digits c) (32 ∷ spaced (d ∷ cs)) (41 ∷ r), length-append (digits c) (32 ∷ spaced (d ∷ cs) ++ 41 ∷ r)) (omega arith)
+    rw (append-assoc (written c) (32 ∷ spaced (d ∷ cs)) (41 ∷ r), length-append (written c) (32 ∷ spaced (d ∷ cs) ++ 41 ∷ r)) (omega arith)
 
-strip-spaced : (c : ℕ) (cs r : List ℕ) → strip (41 ∷ []) (spaced (c ∷ cs) ++ 41 ∷ r) ≡ none
+strip-spaced : (c : Control) (cs : List Control) (r : List ℕ) → strip (41 ∷ []) (spaced (c ∷ cs) ++ 41 ∷ r) ≡ none
 unfolding spaced
-strip-spaced c [] r = strip-digits c (41 ∷ r)
-strip-spaced c (d ∷ cs) r = rw (append-assoc (digits c) (32 ∷ spaced (d ∷ cs)) (41 ∷ r)) (strip-digits c (32 ∷ spaced (d ∷ cs) ++ 41 ∷ r))
+strip-spaced c [] r = strip-written c (41 ∷ r)
+strip-spaced c (d ∷ cs) r = rw (append-assoc (written c) (32 ∷ spaced (d ∷ cs)) (41 ∷ r)) (strip-written c (32 ∷ spaced (d ∷ cs) ++ 41 ∷ r))
 
-list-spaced : (cs r : List ℕ) → Short cs → list (spaced cs ++ 41 ∷ r) ≡ got cs r
+list-spaced : (cs : List Control) (r : List ℕ) → Short cs → list (spaced cs ++ 41 ∷ r) ≡ got cs r
 unfolding list
 list-spaced [] r m = unfold strip spaced in refl
 list-spaced (c ∷ cs) r m = rw (strip-spaced c cs r) (controls-spaced (length (spaced (c ∷ cs) ++ 41 ∷ r)) c cs r (spaced-long c cs r) m)
 
-list-none : (s cs r s′ : List ℕ) → strip (41 ∷ []) s ≡ got tt s′ → got [] s′ ≡ got cs r → (s ≡ spaced cs ++ 41 ∷ r) × Short cs
+list-none : (s : List ℕ) (cs : List Control) (r s′ : List ℕ) → strip (41 ∷ []) s ≡ got tt s′ → got [] s′ ≡ got cs r → (s ≡ spaced cs ++ 41 ∷ r) × Short cs
 unfolding spaced
 list-none s cs r s′ e₁ e₂ =
     let y : [] ≡ cs = cc in
     let z : s′ ≡ r = cc in
     rw (← y, ← z) (strip-sound (41 ∷ []) s s′ e₁, tt)
 
-list-sound : (s cs r : List ℕ) → list s ≡ got cs r → (s ≡ spaced cs ++ 41 ∷ r) × Short cs
+list-sound : (s : List ℕ) (cs : List Control) (r : List ℕ) → list s ≡ got cs r → (s ≡ spaced cs ++ 41 ∷ r) × Short cs
 unfolding list
 list-sound s cs r e = go (unelse (strip (41 ∷ []) s) _ _ e)
   where
@@ -277,14 +339,14 @@ list-sound s cs r e = go (unelse (strip (41 ∷ []) s) _ _ e)
 -- ---- lines
 
 -- after `(mct (`
-abbrev after : List ℕ → ℕ → List ℕ
+abbrev after : List Control → ℕ → List ℕ
 after cs t = spaced cs ++ 41 ∷ 32 ∷ one t
 
-many-after : (cs : List ℕ) (t : ℕ) (r : List ℕ) → Short cs → t < 100 → many (after cs t ++ r) ≡ got (cs, t) r
+many-after : (cs : List Control) (t : ℕ) (r : List ℕ) → Short cs → t < 100 → many (after cs t ++ r) ≡ got (cs, t) r
 unfolding many strip
 many-after cs t r m h = rw (append-assoc (spaced cs) (41 ∷ 32 ∷ one t) r, list-spaced cs (32 ∷ one t ++ r) m, tail-one t r h)
 
-many-sound : (s cs : List ℕ) (t : ℕ) (r : List ℕ) → many s ≡ got (cs, t) r → (s ≡ after cs t ++ r) × Short cs × (t < 100)
+many-sound : (s : List ℕ) (cs : List Control) (t : ℕ) (r : List ℕ) → many s ≡ got (cs, t) r → (s ≡ after cs t ++ r) × Short cs × (t < 100)
 unfolding many
 many-sound s cs t r e =
     let h = target-sound (list s) e in
@@ -387,6 +449,14 @@ clean-digits n = go (ltb n 10)
     go true = rw (ne-eqb (48 + n) 10 (λ e. omega arith))
     go false = rw (ne-eqb (48 + n / 10) 10 (λ e. omega arith), ne-eqb (48 + n % 10) 10 (λ e. omega arith))
 
+clean-written : (c : Control) → clean (written c) ≡ true
+unfolding written
+clean-written c = go (c .negated)
+  where
+    go : (g : Bool) → clean (cond g (bytes "-" ++ digits (c .line)) (digits (c .line))) ≡ true
+    go true = clean-digits (c .line)
+    go false = clean-digits (c .line)
+
 ended-one : (t : ℕ) → Ended (one t)
 unfolding one
 ended-one t = ended-word (digits t) (clean-digits t) (ended-word (bytes ")") refl end)
@@ -395,12 +465,12 @@ ended-two : (c t : ℕ) → Ended (two c t)
 unfolding two
 ended-two c t = ended-word (digits c) (clean-digits c) (ended-word (bytes " ") refl (ended-one t))
 
-ended-spaced : (cs : List ℕ) {l : List ℕ} → Ended l → Ended (spaced cs ++ l)
+ended-spaced : (cs : List Control) {l : List ℕ} → Ended l → Ended (spaced cs ++ l)
 unfolding spaced
 ended-spaced [] h = h
-ended-spaced (c ∷ []) h = ended-word (digits c) (clean-digits c) h
+ended-spaced (c ∷ []) h = ended-word (written c) (clean-written c) h
 ended-spaced (c ∷ d ∷ cs) {l} h =
-    rw (append-assoc (digits c) (32 ∷ spaced (d ∷ cs)) l) (ended-word (digits c) (clean-digits c) (ended-word (bytes " ") refl (ended-spaced (d ∷ cs) h)))
+    rw (append-assoc (written c) (32 ∷ spaced (d ∷ cs)) l) (ended-word (written c) (clean-written c) (ended-word (bytes " ") refl (ended-spaced (d ∷ cs) h)))
 
 clean-word : (p : ℕ) → clean (word p) ≡ true
 unfolding word

@@ -12,7 +12,8 @@ use Rattle.gates.specs.declared.Gate.{Gate}
 use Rattle.gates.specs.declared.Gate.the-variants.{Not, Powered}
 use Rattle.gates.specs.Circuit.{Valid, valid-not, valid-powered, AllValid}
 use Rattle.meaning.specs.Pattern.{has}
-use Rattle.cascades.specs.Expansion.{_⨾_, expansion}
+use Rattle.cascades.specs.Expansion.{_⨾_}
+use Rattle.cascades.specs.Signs.{expansion±}
 use Rattle.cascades.specs.Cascade.{Controlled, expand-all}
 use Rattle.text.specs.declared.Head.{Head}
 use Rattle.text.specs.Text.{Form, lines, gate, mct, rendered, as-forms, Proper, AllProper, circuit-text, cascade-text}
@@ -90,7 +91,7 @@ judge-written n r f a b l =
 mcts-made : (n : ℕ) (gs : List Controlled) → made n (as-forms gs) ≡ expand-all n gs
 unfolding made gates expand-all _⨾_
 mcts-made n [] = refl
-mcts-made n (g ∷ gs) = ap (λ (l : List Gate). expansion n (g .controls) (g .target) ++ l) (mcts-made n gs)
+mcts-made n (g ∷ gs) = ap (λ (l : List Gate). expansion± n (g .controls) (g .target) ++ l) (mcts-made n gs)
 
 pub judge-cascade-written : (n : ℕ) (gs : List Controlled) → AllGood Cascade n (as-forms gs) → AllNarrow (as-forms gs) → 1 ≤ n → n ≤ 32 → length gs ≤ 256 → length (expand-all n gs) ≤ 4096
     → judge Cascade (cascade-text n gs) ≡ accepted (record { lines = n }) (expand-all n gs)

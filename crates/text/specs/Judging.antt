@@ -8,7 +8,8 @@ use lib.Dec.{eqb, leb, ltb}
 use Rattle.gates.specs.declared.Gate.{Gate}
 use Rattle.gates.specs.declared.Gate.the-variants.{Not, Powered}
 use Rattle.meaning.specs.Pattern.{has}
-use Rattle.cascades.specs.Expansion.{expansion}
+use Rattle.cascades.specs.Control.{control-lines}
+use Rattle.cascades.specs.Signs.{expansion±}
 use Rattle.text.specs.declared.Kind.{Kind}
 use Rattle.text.specs.declared.Kind.the-variants.{Cascade, Circuit}
 use Rattle.text.specs.declared.Refusal.{Refusal}
@@ -22,13 +23,14 @@ pub data Judged : Type 0 where
   turned-away : Refusal → ℕ → Judged
   accepted : Head → List Gate → Judged
 
--- ---- a line after line 1: its controls, its target, and the gates that it puts into a circuit of n lines
+-- ---- a line after line 1: the lines of its controls, which the rules read whatever their signs, its target, and the gates that it puts into a
+-- circuit of n lines, with the NOTs of negated controls
 
 unfoldable pub controls : Form → List ℕ
 controls (lines n) = []
 controls (gate (Not t)) = []
 controls (gate (Powered p c t)) = c ∷ []
-controls (mct cs t) = cs
+controls (mct cs t) = control-lines cs
 
 unfoldable pub target : Form → ℕ
 target (lines n) = 0
@@ -39,7 +41,7 @@ target (mct cs t) = t
 unfoldable pub gates : ℕ → Form → List Gate
 gates n (lines m) = []
 gates n (gate g) = g ∷ []
-gates n (mct cs t) = expansion n cs t
+gates n (mct cs t) = expansion± n cs t
 
 -- the form that every line after line 1 has in a text of this kind
 unfoldable pub belongs : Kind → Form → Bool

@@ -6,6 +6,7 @@ use mathlib.Core.List.{List, [], _∷_}
 use lib.ListN.{length}
 use lib.Dec.{eqb, leb}
 use Rattle.gates.specs.declared.Gate.the-variants.{Not, Powered}
+use Rattle.cascades.specs.declared.Control.{Control}
 use Rattle.text.specs.Text.{Form, lines, gate, mct, bytes}
 
 -- what was got, and the bytes after it
@@ -48,20 +49,28 @@ tail s = bind (num s) (λ t s′. bind (strip (bytes ")\n") s′) (λ _ s″. go
 unfoldable pub pair : List ℕ → Got (ℕ × ℕ)
 pair s = bind (num s) (λ c s′. bind (strip (bytes " ") s′) (λ _ s″. bind (tail s″) (λ t s‴. got (c, t) s‴)))
 
+-- a number as a control with a sign or without one
+abbrev pub with-sign : Bool → List ℕ → Got Control
+with-sign b s = bind (num s) (λ c. got (record { line = c; negated = b }))
+
+-- a control: "a minus sign directly before it" negates it
+unfoldable pub signed : List ℕ → Got Control
+signed s = if-got (strip (bytes "-") s) (λ _. with-sign true) (with-sign false s)
+
 -- a control, and whether another comes after it: a space, or `)`
-unfoldable pub control : List ℕ → Got (ℕ × Bool)
-control s = bind (num s) (λ c s′. if-got (strip (bytes " ") s′) (λ _ s″. got (c, true) s″) (bind (strip (bytes ")") s′) (λ _ s″. got (c, false) s″)))
+unfoldable pub control : List ℕ → Got (Control × Bool)
+control s = bind (signed s) (λ c s′. if-got (strip (bytes " ") s′) (λ _ s″. got (c, true) s″) (bind (strip (bytes ")") s′) (λ _ s″. got (c, false) s″)))
 
 -- controls up to the `)`, at most k of them
-unfoldable pub controls : ℕ → List ℕ → Got (List ℕ)
+unfoldable pub controls : ℕ → List ℕ → Got (List Control)
 controls zero s = none
 controls (suc k) s = bind (control s) (λ c s′. cond (c .1) (bind (controls k s′) (λ cs s″. got (c .0 ∷ cs) s″)) (got (c .0 ∷ []) s′))
 
 -- after `(mct (`: none, or some
-unfoldable pub list : List ℕ → Got (List ℕ)
+unfoldable pub list : List ℕ → Got (List Control)
 list s = if-got (strip (bytes ")") s) (λ _ s′. got [] s′) (controls (length s) s)
 
-unfoldable pub many : List ℕ → Got (List ℕ × ℕ)
+unfoldable pub many : List ℕ → Got (List Control × ℕ)
 many s = bind (list s) (λ cs s′. bind (strip (bytes " ") s′) (λ _ s″. bind (tail s″) (λ t s‴. got (cs, t) s‴)))
 
 -- the rest of a line, by its word

@@ -10,13 +10,14 @@ use lib.Dec.{ltb}
 use Rattle.gates.specs.Every.{Every}
 use Rattle.gates.specs.declared.Gate.{Gate}
 use Rattle.gates.specs.declared.Gate.the-variants.{Not, Powered}
+use Rattle.cascades.specs.declared.Control.{Control}
 use Rattle.cascades.specs.Cascade.{Controlled}
 
--- (lines n); (not t), (cn c t), (v c t) and (vp c t); (mct (c1 c2 .. ck) t)
+-- (lines n); (not t), (cn c t), (v c t) and (vp c t); (mct (c1 c2 .. ck) t), each ci with or without a sign
 pub data Form : Type 0 where
   lines : ℕ → Form
   gate : Gate → Form
-  mct : List ℕ → ℕ → Form
+  mct : List Control → ℕ → Form
 
 -- the bytes of quoted text
 abbrev pub bytes : String → List ℕ
@@ -27,11 +28,15 @@ bytes (S._∷_ c s) = code c ∷ bytes s
 unfoldable pub digits : ℕ → List ℕ
 digits n = cond (ltb n 10) ((48 + n) ∷ []) ((48 + n / 10) ∷ (48 + n % 10) ∷ [])
 
--- single spaces
-unfoldable pub spaced : List ℕ → List ℕ
+-- a control, with "a minus sign directly before it" where it is negated
+unfoldable pub written : Control → List ℕ
+written c = cond (c .negated) (bytes "-" ++ digits (c .line)) (digits (c .line))
+
+-- controls with single spaces
+unfoldable pub spaced : List Control → List ℕ
 spaced [] = []
-spaced (c ∷ []) = digits c
-spaced (c ∷ d ∷ cs) = digits c ++ (bytes " " ++ spaced (d ∷ cs))
+spaced (c ∷ []) = written c
+spaced (c ∷ d ∷ cs) = written c ++ (bytes " " ++ spaced (d ∷ cs))
 
 -- the last number of a line; the line is ended by byte 10
 unfoldable pub one : ℕ → List ℕ
@@ -70,8 +75,8 @@ unfoldable pub circuit-text : ℕ → List Gate → List ℕ
 circuit-text n c = rendered (lines n ∷ map gate c)
 
 -- a form that can be written: numbers of one or two digits, powers 1 to 3
-abbrev pub Short : List ℕ → Type 0
-Short = Every (λ c. c < 100)
+abbrev pub Short : List Control → Type 0
+Short = Every (λ c. c .line < 100)
 
 abbrev pub Proper : Form → Type 0
 Proper (lines n) = n < 100

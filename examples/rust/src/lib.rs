@@ -151,7 +151,13 @@ pub struct Circuit {
     pub gates: Vec<Gate>,
 }
 
-/// Maps a cascade text to a circuit.
+/// Maps a cascade text to a circuit. A minus sign directly before a control negates
+/// it: it is met when its line is 0, any other when its line is 1.
+///
+/// ```
+/// let mapped = yilgorza::map(b"(lines 2)\n(mct (-0) 1)\n").unwrap();
+/// assert_eq!(mapped.text, b"(lines 2)\n(not 0)\n(cn 0 1)\n(not 0)\n");
+/// ```
 pub fn map(text: &[u8]) -> Result<Circuit, Refusal> {
     circuit(lent::map, text)
 }

@@ -1,5 +1,5 @@
-//! The examples of document 01, the order of circuits, and what is left in memory
-//! that a caller lends.
+//! The examples of document 01, negated controls, the order of circuits, and what is
+//! left in memory that a caller lends.
 
 use std::cmp::Ordering;
 
@@ -89,6 +89,115 @@ fn quotes() {
         let gates = quoted(&text(lines)).unwrap();
         assert_eq!(gates.len(), count);
         assert_eq!(map(&text(lines)).unwrap().gates, gates);
+    }
+}
+
+/// Cascades with negated controls, and what they are mapped to.
+const NEGATED: [(&[&str], &[&str]); 5] = [
+    (
+        &["(lines 2)", "(mct (-0) 1)"],
+        &["(lines 2)", "(not 0)", "(cn 0 1)", "(not 0)"],
+    ),
+    (
+        &["(lines 3)", "(mct (-0 -1) 2)"],
+        &[
+            "(lines 3)",
+            "(not 0)",
+            "(not 1)",
+            "(v 0 2)",
+            "(v 1 2)",
+            "(cn 0 1)",
+            "(vp 1 2)",
+            "(not 1)",
+            "(cn 0 1)",
+            "(not 0)",
+        ],
+    ),
+    // NOTs that meet between the gates vanish.
+    (
+        &["(lines 3)", "(mct (-0) 1)", "(mct (-0) 2)"],
+        &["(lines 3)", "(not 0)", "(cn 0 1)", "(cn 0 2)", "(not 0)"],
+    ),
+    (
+        &["(lines 2)", "(mct (-0) 1)", "(mct (-0) 1)"],
+        &["(lines 2)"],
+    ),
+    // A NOT keeps apart what would merge without it.
+    (
+        &["(lines 2)", "(mct (0) 1)", "(mct (-0) 1)"],
+        &["(lines 2)", "(cn 0 1)", "(not 0)", "(cn 0 1)", "(not 0)"],
+    ),
+];
+
+#[test]
+fn negated_controls() {
+    for (given, expected) in NEGATED {
+        let circuit = map(&text(given)).unwrap();
+        assert_eq!(circuit.text, text(expected));
+        assert_eq!(circuit.gates.len(), expected.len() - 1);
+        assert_eq!(quoted(&text(given)).as_ref(), Ok(&circuit.gates));
+        // The list is a circuit, reduced already.
+        assert_eq!(reduce(&circuit.text), Ok(circuit));
+    }
+    let cases: [(&[&str], usize); 4] = [
+        (&["(lines 3)", "(mct (-0 1) 2)"], 7),
+        (&["(lines 3)", "(mct (0 -1) 2)"], 7),
+        (&["(lines 5)", "(mct (-0 -1 -2) 3)"], 20),
+        (&["(lines 14)", "(mct (-0 1 -12) 5)"], 18),
+    ];
+    for (lines, count) in cases {
+        assert_eq!(quoted(&text(lines)).unwrap().len(), count);
+    }
+}
+
+#[test]
+fn refusals_of_signs() {
+    // A sign is one minus directly before a control, and stands nowhere else.
+    let lines = text(&["(lines -2)"]);
+    assert_eq!(map(&lines), refused(Number::Malformed, 1));
+    assert_eq!(reduce(&lines), refused(Number::Malformed, 1));
+    for form in [
+        "(mct (0) -1)",
+        "(mct () -1)",
+        "(mct (--1) 2)",
+        "(mct (- 1) 2)",
+        "(mct (-01) 2)",
+        "(mct (-00) 2)",
+        "(mct (+1) 2)",
+        "(mct (-) 2)",
+        "(mct (0-1) 2)",
+        "(mct (1-) 2)",
+        "(mct (-100) 2)",
+    ] {
+        let given = text(&["(lines 13)", "(mct (-0) 1)", form]);
+        assert_eq!(map(&given), refused(Number::Malformed, 3), "{form}");
+        assert_eq!(quoted(&given), refused(Number::Malformed, 3), "{form}");
+    }
+    for form in ["(cn -0 1)", "(v 0 -1)", "(not -0)", "(mct (-0) 1)"] {
+        let given = text(&["(lines 2)", form]);
+        assert_eq!(reduce(&given), refused(Number::Malformed, 2), "{form}");
+        let second = refused_text(Number::Malformed, 2, 2);
+        assert_eq!(compare(b"(lines 2)\n", &given), second, "{form}");
+    }
+    // The other rules read the line, whatever its sign.
+    for (lines, number) in [
+        (["(lines 3)", "(mct (-3) 1)"], Number::NoSuchLine),
+        (["(lines 3)", "(mct (-1) 1)"], Number::Crossed),
+        (["(lines 5)", "(mct (3 -3) 4)"], Number::Unsorted),
+        (["(lines 5)", "(mct (-3 3) 4)"], Number::Unsorted),
+        (["(lines 5)", "(mct (-3 -3) 4)"], Number::Unsorted),
+        (["(lines 5)", "(mct (-3 2) 4)"], Number::Unsorted),
+        (
+            [
+                "(lines 17)",
+                "(mct (-0 1 2 3 4 5 6 7 8 9 10 11 12 13 14 -15) 16)",
+            ],
+            Number::TooWide,
+        ),
+        (["(lines 4)", "(mct (-0 1 -2) 3)"], Number::NoSpare),
+    ] {
+        assert_eq!(map(&text(&lines)), refused(number, 2), "{lines:?}");
+        assert_eq!(quoted(&text(&lines)), refused(number, 2), "{lines:?}");
     }
 }
 
@@ -265,6 +374,20 @@ fn twelfth_wide_gate() {
     let lines = |count| [vec!["(lines 17)"], vec![gate; count]].concat();
     assert!(map(&text(&lines(11))).is_ok());
     assert_eq!(map(&text(&lines(12))), refused(Number::TooMany, 13));
+
+    // Eleven expand to 4,092 gates, and to two more for each negated control.
+    let one = gate.replace(" 14)", " -14)");
+    let two = one.replace("(0 ", "(-0 ");
+    let last = |count, last| [lines(count), vec![last]].concat();
+    assert!(map(&text(&last(10, &one))).is_ok());
+    assert!(map(&text(&last(10, &two))).is_ok());
+    let three = two.replace(" 7 ", " -7 ");
+    let over = last(10, &three);
+    assert_eq!(map(&text(&over)), refused(Number::TooMany, 12));
+    assert_eq!(quoted(&text(&over)), refused(Number::TooMany, 12));
+    // It is the last line that goes past, wherever the three are.
+    let over = [&["(lines 17)", &one, &two], &lines(9)[1..]].concat();
+    assert_eq!(map(&text(&over)), refused(Number::TooMany, 12));
 }
 
 /// A job over one text, on lent memory.

@@ -4,7 +4,7 @@
 use crate::random::Random;
 use std::fmt::Write;
 
-#[derive(Clone, Copy, Debug, PartialEq, Eq)]
+#[derive(Clone, Copy, Debug, PartialEq, Eq, Hash)]
 pub enum Gate {
     Not { target: u8 },
     Powered { power: u8, control: u8, target: u8 },
@@ -259,4 +259,32 @@ pub fn text(lines: u8, gates: &[Gate]) -> Vec<u8> {
         .unwrap();
     }
     text.into_bytes()
+}
+
+/// The number of lines and the gates of an answer text, if it is one.
+pub fn read(text: &[u8]) -> Option<(u8, Vec<Gate>)> {
+    let text = std::str::from_utf8(text).ok()?.strip_suffix(")\n")?;
+    let mut forms = text.split(")\n");
+    let lines = forms.next()?.strip_prefix("(lines ")?.parse().ok()?;
+    let gates = forms.map(|form| {
+        let words: Vec<&str> = form.strip_prefix('(')?.split(' ').collect();
+        let number = |word: &str| word.parse::<u8>().ok().filter(|&line| line < lines);
+        match words[..] {
+            ["not", target] => Some(Not {
+                target: number(target)?,
+            }),
+            [word, control, target] => Some(Powered {
+                power: match word {
+                    "v" => 1,
+                    "cn" => 2,
+                    "vp" => 3,
+                    _ => return None,
+                },
+                control: number(control)?,
+                target: number(target)?,
+            }),
+            _ => None,
+        }
+    });
+    Some((lines, gates.collect::<Option<_>>()?))
 }

@@ -56,6 +56,11 @@ pub fn all() -> Vec<Known> {
     let too_wide = format!("(lines 17)\n{}", mct(16, 16));
     let past_expansion = format!("(lines 17)\n{}", mct(15, 15).repeat(12));
     let past_mcts = format!("(lines 2)\n{}", mct(1, 1).repeat(257));
+    let too_wide_negated = too_wide.replace("15)", "-15)");
+    // Eleven gates of 15 controls are 4,092; three negated controls are six more.
+    let past_nots = format!("(lines 17)\n{}", mct(15, 15).repeat(11));
+    let past_nots = past_nots.replacen("(0 1 2 3", "(-0 -1 2 -3", 1);
+    let past_mcts_negated = past_mcts.replace("(0)", "(-0)");
     let full = format!("(lines 32)\n{}", "(vp 30 31)\n(vp 31 30)\n".repeat(2_048));
     let past_full = format!("{full}(not 0)\n");
     let map = [
@@ -77,6 +82,19 @@ pub fn all() -> Vec<Known> {
         ("(lines 4)\n(mct (0 1 2) 3)\n", refused(8, 2)),
         (&past_expansion, refused(9, 13)),
         (&past_mcts, refused(9, 258)),
+        ("(lines 2)\n(mct (-0) 1)\n", accepted(3, 35)),
+        ("(lines 3)\n(mct (-0 -1) 2)\n", accepted(9, 85)),
+        ("(lines 2)\n(mct (-0) 1)\n(mct (-0) 1)\n", accepted(0, 10)),
+        ("(lines 2)\n(mct (--0) 1)\n", refused(3, 2)),
+        ("(lines 2)\n(mct (0) -1)\n", refused(3, 2)),
+        ("(lines -2)\n(mct (0) 1)\n", refused(3, 1)),
+        ("(lines 3)\n(mct (-0 -3) 2)\n", refused(4, 2)),
+        ("(lines 3)\n(mct (0 -2) 2)\n", refused(5, 2)),
+        ("(lines 3)\n(mct (1 -1) 2)\n", refused(6, 2)),
+        (&too_wide_negated, refused(7, 2)),
+        ("(lines 4)\n(mct (-0 1 -2) 3)\n", refused(8, 2)),
+        (&past_nots, refused(9, 12)),
+        (&past_mcts_negated, refused(9, 258)),
     ];
     let reduce = [
         ("(lines 2)\n(v 0 1)\n(v 0 1)\n", accepted(1, 19)),
@@ -95,6 +113,8 @@ pub fn all() -> Vec<Known> {
         ("(lines 2)\n(v 2 1)\n", refused(4, 2)),
         ("(lines 2)\n(v 1 1)\n", refused(5, 2)),
         (&past_full, refused(9, 4_098)),
+        ("(lines 2)\n(v 0 1)\n(v -0 1)\n", refused(3, 3)),
+        ("(lines 2)\n(mct (-0) 1)\n", refused(3, 2)),
     ];
     let known = |job| {
         move |&(text, ample): &(&str, Outcome)| Known {

@@ -1,16 +1,18 @@
 //! The static library against the peer, on many thousands of texts: number,
 //! line, gates and bytes, every record and byte lent, and what stands beside
-//! them. What the papers say of an answer by themselves, and of the answers of one
-//! text with several areas, is asserted without the peer too.
+//! them. What the papers say of an answer by themselves, of the answers of one text
+//! with several areas, and of negated controls (see `negated`), is asserted without
+//! the peer too.
 
 use crate::built::{self, Drawn};
 use crate::circuit::{self, Gate};
 use crate::known::{self, Known};
+use crate::negated;
 use crate::random::Random;
 use crate::report::{shown, Report};
 use crate::subject::{call, holds, read_record, Area};
-use crate::texts;
-use peer::{Job, Outcome};
+use crate::texts::{self, Signs};
+use peer::{Job, Outcome, Program};
 
 const JOBS: [Job; 2] = [Job::Map, Job::Reduce];
 /// The calls that are counted apart, and the numbers that each can return.
@@ -20,6 +22,14 @@ const CALLS: [(&str, &[usize]); 4] = [
     ("reduce", &[0, 1, 2, 3, 4, 5, 9, 10]),
     ("reduce, empty area", &[1, 2, 3, 4, 5, 9, 10]),
 ];
+/// How often, at least, map gives each of the numbers 0 to 10 to a text with a
+/// minus sign in it; 1 and 2 do not look at the text.
+const FEWEST_SIGNED: [u64; 11] = [
+    30_000, 0, 0, 80_000, 10_000, 5_000, 3_000, 2_000, 1_000, 800, 20_000,
+];
+/// Random cascades with negated controls that are held to what the order says,
+/// without the peer.
+const NEGATED: usize = 2_000;
 /// An answer area that has room for every answer, and one that has more.
 const LONGEST: [usize; 2] = [45_067, 50_000];
 
@@ -30,6 +40,8 @@ struct Library {
     random: Random,
     /// How often each number came up, for each of the calls.
     numbers: [[u64; 11]; CALLS.len()],
+    /// How often map gave each number to a text with a minus sign in it.
+    signed: [u64; 11],
 }
 
 /// What the library gave in one case, and what it had to return.
@@ -44,8 +56,9 @@ pub fn run() -> Report {
         report: Report::new("library"),
         random: Random::seeded(20_240_601),
         numbers: [[0; 11]; CALLS.len()],
+        signed: [0; 11],
     };
-    let parts: [(&str, Part); 12] = [
+    let parts: [(&str, Part); 13] = [
         ("answer areas of every length", Library::every_area),
         ("every single change of small texts", Library::every_change),
         ("valid texts", Library::valid),
@@ -54,6 +67,7 @@ pub fn run() -> Report {
         ("sizes of text and list", Library::sizes),
         ("numbers of lines and gates at the limits", Library::limits),
         ("long texts", Library::long),
+        ("negated controls, without the peer", Library::negated),
         ("linked circuits", Library::linked),
         ("long circuits of known lists", Library::built),
         ("long circuits redrawn by passes", Library::redrawn),
@@ -91,6 +105,13 @@ impl Library {
                     });
             }
         }
+        let row = self.signed.map(|times| format!("{times:5}"));
+        println!("library: {:20}{}", "map, with a sign", row.join(" "));
+        for (number, times) in self.signed.into_iter().enumerate() {
+            self.report.case(times >= FEWEST_SIGNED[number], || {
+                format!("map: number {number} came up {times} times for a text with a sign")
+            });
+        }
     }
 
     /// One case: the same lent areas to both, everything compared.
@@ -109,6 +130,9 @@ impl Library {
         let call = 2 * (job as usize) + usize::from(answer_len == 0);
         if let Some(times) = self.numbers[call].get_mut(got.number as usize) {
             *times += 1;
+            if job == Job::Map && text.contains(&b'-') {
+                self.signed[got.number as usize] += 1;
+            }
         }
         let wrong = if got != expected {
             "the outcome"
@@ -125,6 +149,8 @@ impl Library {
             "the memory beside an area"
         } else if !counts_hold(job, got, answer.inside()) {
             "what the papers say of gates and bytes"
+        } else if job == Job::Reduce && got.number == 0 && text.contains(&b'-') {
+            "what the papers say of a minus sign in a circuit"
         } else {
             ""
         };
@@ -253,11 +279,27 @@ impl Library {
                 self.any_job(format!("(lines 32)\n(mct () {zeros}{header})\n").as_bytes());
                 self.any_job(format!("(lines 32)\n(mct (1 {zeros}{header}) 0)\n").as_bytes());
             }
+            // The same with a sign, which only a control may have.
+            for zeros in ["", "0", "00", "-", " "] {
+                let number = format!("-{zeros}{header}");
+                for text in [
+                    format!("(lines {number})\n"),
+                    format!("(lines 32)\n(not {number})\n"),
+                    format!("(lines 32)\n(cn {number} 1)\n"),
+                    format!("(lines 32)\n(v 1 {number})\n"),
+                    format!("(lines 32)\n(mct () {number})\n"),
+                    format!("(lines 32)\n(mct ({number}) 0)\n"),
+                    format!("(lines 32)\n(mct (1 {number}) 0)\n"),
+                    format!("(lines 32)\n(mct ({number} 31) 0)\n"),
+                ] {
+                    self.any_job(text.as_bytes());
+                }
+            }
         }
     }
 
     fn valid(&mut self) {
-        for case in 0..4_000 {
+        for case in 0..12_000 {
             let most = self.random.pick(&[2, 5, 12, 40, 120]);
             let text = texts::circuit(&mut self.random, most);
             self.areas(Job::Reduce, &text);
@@ -268,7 +310,7 @@ impl Library {
     }
 
     fn damaged(&mut self) {
-        for _ in 0..8_000 {
+        for _ in 0..24_000 {
             let text = texts::circuit(&mut self.random, 12);
             let text = texts::damaged(&mut self.random, &text);
             self.any_job(&text);
@@ -279,7 +321,7 @@ impl Library {
     }
 
     fn wild(&mut self) {
-        for _ in 0..8_000 {
+        for _ in 0..24_000 {
             let text = texts::wild(&mut self.random, true);
             self.any_job(&text);
             let text = texts::wild(&mut self.random, false);
@@ -315,10 +357,11 @@ impl Library {
     }
 
     fn limits(&mut self) {
-        for _ in 0..8 {
+        for round in 0..24 {
+            let signs = [Signs::None, Signs::Some, Signs::All][round % 3];
             // 255 to 258 mct lines, the last perhaps against an earlier rule.
             for count in 255..=258 {
-                let text = texts::cascade_of_lines(&mut self.random, count);
+                let text = texts::cascade_of_lines(&mut self.random, count, signs);
                 self.any_job(&text);
                 self.areas(Job::Map, &text);
                 let last = text[..text.len() - 1]
@@ -332,13 +375,18 @@ impl Library {
                     "(mct (0) 0)\n",
                     "(mct () 0)",
                     "(mct ()  0)\n",
+                    "(mct (-0 -0) 1)\n",
+                    "(mct (-40) 1)\n",
+                    "(mct (-0) 0)\n",
+                    "(mct (--0) 1)\n",
+                    "(mct (-0) 1)\n",
                 ] {
                     self.any_job(&[&text[..last], line.as_bytes()].concat());
                 }
             }
             // Expansions around the limit.
             for total in 4_090..=4_100 {
-                let text = texts::cascade_of_total(&mut self.random, total);
+                let text = texts::cascade_of_total(&mut self.random, total, signs);
                 self.any_job(&text);
                 self.areas(Job::Map, &text);
                 let text = texts::damaged(&mut self.random, &text);
@@ -362,14 +410,43 @@ impl Library {
             self.areas(Job::Map, text.as_bytes());
             self.any_job(text.as_bytes());
         }
-        // Every number of controls on every number of lines.
+        // The same with the first so many controls of the first gate negated, and
+        // so many of the last: two NOTs for each.
+        for (first, last) in [
+            (1, 0),
+            (0, 1),
+            (1, 1),
+            (2, 0),
+            (0, 2),
+            (3, 0),
+            (0, 3),
+            (15, 15),
+        ] {
+            for rest in [0, 1, 2, 3] {
+                let mut gates = vec![wide.to_string(); 11];
+                for (gate, negated) in [(0, first), (10, last)] {
+                    let signs =
+                        (0..15).map(|c| format!("{}{c}", if c < negated { "-" } else { "" }));
+                    let controls: Vec<String> = signs.collect();
+                    gates[gate] = format!("(mct ({}) 15)\n", controls.join(" "));
+                }
+                let text =
+                    "(lines 17)\n".to_string() + &gates.concat() + &"(mct () 3)\n".repeat(rest);
+                self.areas(Job::Map, text.as_bytes());
+            }
+        }
+        // Every number of controls on every number of lines, with no sign, one on
+        // every other control, and one on each.
         for lines in 1..=33u8 {
             for k in 0..=lines.min(32) {
-                let controls: Vec<String> = (0..k).map(|c| c.to_string()).collect();
-                for target in [k, lines.saturating_sub(1), lines] {
-                    let text =
-                        format!("(lines {lines})\n(mct ({}) {target})\n", controls.join(" "));
-                    self.areas(Job::Map, text.as_bytes());
+                for every in [0, 2, 1] {
+                    let sign = |c| if every > 0 && c % every == 0 { "-" } else { "" };
+                    let controls: Vec<String> = (0..k).map(|c| format!("{}{c}", sign(c))).collect();
+                    for target in [k, lines.saturating_sub(1), lines] {
+                        let text =
+                            format!("(lines {lines})\n(mct ({}) {target})\n", controls.join(" "));
+                        self.areas(Job::Map, text.as_bytes());
+                    }
                 }
             }
         }
@@ -408,7 +485,7 @@ impl Library {
     }
 
     fn long(&mut self) {
-        for case in 0..60 {
+        for case in 0..180 {
             let most = if case % 3 == 0 { 4_096 } else { 1_500 };
             let count = self.random.between(most / 2, most);
             let text = texts::circuit_of(&mut self.random, count);
@@ -416,11 +493,18 @@ impl Library {
             let damaged = texts::damaged(&mut self.random, &text);
             self.any_job(&damaged);
             let total = self.random.between(most / 2, most);
-            let text = texts::cascade_of_total(&mut self.random, total);
+            let signs = Signs::any(&mut self.random);
+            let text = texts::cascade_of_total(&mut self.random, total, signs);
             self.areas(Job::Map, &text);
             let damaged = texts::damaged(&mut self.random, &text);
             self.any_job(&damaged);
         }
+    }
+
+    /// What the order says of negated controls, by the answers of the library alone.
+    fn negated(&mut self) {
+        let mut ask = |program: Program, text: &[u8]| Ok(program_answer(program, text));
+        negated::run(&mut self.report, &mut self.random, NEGATED, &mut ask);
     }
 
     /// Two linked circuits get one list.
@@ -542,6 +626,28 @@ impl Library {
                 format!("record {record}: got {got:?}, expected {expected:?}, the peer {read:?}")
             });
         }
+    }
+}
+
+/// What the library answers, as its program over one text would write it.
+fn program_answer(program: Program, text: &[u8]) -> Vec<u8> {
+    let (job, answer_len) = match program {
+        Program::Map => (Job::Map, LONGEST[0]),
+        Program::Reduce => (Job::Reduce, LONGEST[0]),
+        Program::Quote => (Job::Map, 0),
+    };
+    let mut list = Area::filled(4_096, 0xffff);
+    let mut answer = Area::filled(answer_len, b'?');
+    let Outcome {
+        number,
+        line,
+        gates,
+        bytes,
+    } = call(job, &Area::holding(text, b'?'), &mut list, &mut answer);
+    match (number, program) {
+        (0, Program::Quote) => format!("(quote {gates})\n").into_bytes(),
+        (0, _) => answer.inside()[..bytes as usize].to_vec(),
+        _ => format!("(turned-away {number} {line})\n").into_bytes(),
     }
 }
 

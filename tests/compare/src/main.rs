@@ -5,8 +5,9 @@
 //! `compare programs DIRECTORY SCRATCH`
 //!                       the programs map, reduce, quote and compare in
 //!                       DIRECTORY, with files in SCRATCH
-//! `compare small`       reduce on all small circuits, and compare on all pairs of
-//!                       smaller ones, against their whole link classes
+//! `compare small`       reduce on all small circuits, map on small cascades with
+//!                       negated controls, and compare on all pairs of smaller
+//!                       circuits, against their whole link classes
 //!
 //! Each part prints what it ran; its last line is `N passed, M failed`. The
 //! exit status is 0 only if N is not 0 and M is 0.
@@ -14,9 +15,12 @@
 mod built;
 mod chain;
 mod circuit;
+mod expansion;
 mod files;
 mod known;
 mod library;
+mod meaning;
+mod negated;
 mod pairs;
 mod programs;
 mod random;

@@ -25,6 +25,8 @@ const LENGTHS: [usize; 6] = [0, 1, 4_095, 4_096, 4_097, 5_000];
 /// The least lists that no text is refused for.
 const WHOLE: [usize; 2] = [4_096; 2];
 const FEWEST_PAIRS: u64 = 60_000;
+/// Pairs in which a text has a minus sign, which no circuit has in form.
+const FEWEST_SIGNED: u64 = 2_000;
 const REDRAWINGS: u64 = 40_000;
 const TRIPLES: usize = 6_000;
 
@@ -35,6 +37,8 @@ struct Pairs {
     random: Random,
     /// How many pairs were compared, each in both orders.
     pairs: u64,
+    /// How many of them had a minus sign in a text.
+    signed: u64,
     /// How often each count came up.
     counts: [u64; 3],
     /// How often each number came up, for each text.
@@ -54,6 +58,7 @@ pub fn run() -> Report {
         report: Report::new("pairs"),
         random: Random::seeded(20_240_715),
         pairs: 0,
+        signed: 0,
         counts: [0; 3],
         numbers: [[0; 10]; 2],
         steps: [0; STEPS.len()],
@@ -115,7 +120,11 @@ impl Pairs {
                 .case(times > 0, || format!("{name} never came up"));
         }
         let pairs = self.pairs;
-        println!("pairs: {pairs} pairs, each in both orders");
+        let signed = self.signed;
+        println!("pairs: {pairs} pairs, each in both orders, {signed} of them with a minus sign");
+        self.report.case(signed >= FEWEST_SIGNED, || {
+            format!("only {signed} pairs with a minus sign")
+        });
         self.report
             .case(pairs >= FEWEST_PAIRS, || format!("only {pairs} pairs"));
     }
@@ -146,6 +155,8 @@ impl Pairs {
             !lists[which].guards_hold(junk[which]) || !text_areas[which].guards_hold(junk_byte)
         }) {
             "the memory beside an area was changed"
+        } else if outcome.number == 0 && texts.iter().any(|text| text.contains(&b'-')) {
+            "a circuit with a minus sign was accepted"
         } else {
             ""
         };
@@ -182,6 +193,7 @@ impl Pairs {
         let there = self.case(texts, lengths);
         let back = self.case([texts[1], texts[0]], [lengths[1], lengths[0]]);
         self.pairs += 1;
+        self.signed += u64::from(texts.iter().any(|text| text.contains(&b'-')));
         self.report.case(exchanged(&there, &back), || {
             format!(
                 "exchanging the texts: {:?}, then {:?}; {}",
@@ -377,6 +389,9 @@ impl Pairs {
             known(b"", 3, 1),
             known(b"(lines 3)\n(cn 0 1)\n(v 1 2)", 3, 3),
             known(b"(lines 3)\n(mct (0 1) 2)\n", 3, 2),
+            known(b"(lines 3)\n(mct (-0 1) 2)\n", 3, 2),
+            known(b"(lines 3)\n(cn 0 1)\n(v -1 2)\n", 3, 3),
+            known(b"(lines -3)\n(cn 0 1)\n", 3, 1),
             known(&overlong[..60_000], 3, 4_098),
             known(b"(lines 33)\n", 4, 1),
             known(b"(lines 3)\n(cn 0 1)\n(v 1 3)\n(v 1 1)\n", 4, 3),
@@ -409,6 +424,10 @@ impl Pairs {
                     format!("(lines {zeros}{number})\n"),
                     format!("(lines 32)\n(not {zeros}{number})\n"),
                     format!("(lines 32)\n(vp {zeros}{number} 1)\n"),
+                    format!("(lines -{zeros}{number})\n"),
+                    format!("(lines 32)\n(not -{zeros}{number})\n"),
+                    format!("(lines 32)\n(vp -{zeros}{number} 1)\n"),
+                    format!("(lines 32)\n(vp 1 -{zeros}{number})\n"),
                 ] {
                     self.any_lists([b"(lines 32)\n(not 31)\n", text.as_bytes()]);
                 }

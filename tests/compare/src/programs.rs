@@ -1,14 +1,16 @@
 //! The programs against the peer: those over one text from standard input to
 //! standard output, nothing on standard error, exit status 0; the one over two
 //! texts through files (see `files`). Long circuits whose list the definitions
-//! give (see `built`) are asserted without the peer.
+//! give (see `built`), and what order 4 says of negated controls (see `negated`),
+//! are asserted without the peer.
 
 use crate::built;
 use crate::circuit;
 use crate::files;
+use crate::negated;
 use crate::random::Random;
 use crate::report::{shown, Report};
-use crate::texts;
+use crate::texts::{self, Signs};
 use peer::Program;
 use std::ffi::OsString;
 use std::io::{Read, Write};
@@ -21,10 +23,18 @@ const PROGRAMS: [(Program, &str); 3] = [
     (Program::Quote, "quote"),
 ];
 
+/// How often, at least, map and quote together are expected to give each of the
+/// numbers 0 to 9 to a text with a minus sign in it.
+const FEWEST_SIGNED: [u64; 10] = [150, 0, 0, 60, 20, 15, 15, 5, 3, 8];
+/// Random cascades with negated controls that are held to what the order says,
+/// without the peer.
+const NEGATED: usize = 120;
+
 pub fn run(directory: &Path, scratch: &Path) -> Report {
     let mut report = Report::new("programs");
     let mut random = Random::seeded(4_711);
     let mut numbers = [0u64; 11];
+    let mut signed = [0u64; 11];
     for (program, name) in PROGRAMS {
         let before = report.passed + report.failed;
         for text in all_texts(&mut random, program) {
@@ -45,6 +55,9 @@ pub fn run(directory: &Path, scratch: &Path) -> Report {
                     .fold(0, |n, b| 10 * n + usize::from(b - b'0')),
             };
             numbers[number] += 1;
+            if program != Program::Reduce && text.contains(&b'-') {
+                signed[number] += 1;
+            }
             let passed = got.as_ref() == Ok(&expected);
             report.case(passed, || {
                 let got = match &got {
@@ -68,6 +81,23 @@ pub fn run(directory: &Path, scratch: &Path) -> Report {
         "programs: numbers 0 to 9 expected so often: {:?}",
         &numbers[..10]
     );
+    println!(
+        "programs: of these for a text with a sign, by map or quote: {:?}",
+        &signed[..10]
+    );
+    for (number, fewest) in FEWEST_SIGNED.into_iter().enumerate() {
+        let times = signed[number];
+        report.case(times >= fewest, || {
+            format!("number {number} was expected {times} times for a text with a sign")
+        });
+    }
+    let mut ask = |program, text: &[u8]| {
+        let named = PROGRAMS.iter().find(|(known, _)| *known == program);
+        let (_, name) = named.ok_or("no such program")?;
+        let written = Written::by(&directory.join(name), &[], text, text.len().max(1))?;
+        written.answer()
+    };
+    negated::run(&mut report, &mut random, NEGATED, &mut ask);
     files::run(&mut report, &directory.join("compare"), scratch);
     report
 }
@@ -111,6 +141,8 @@ fn all_texts(random: &mut Random, program: Program) -> Vec<Vec<u8>> {
     texts.push(b"\n".to_vec());
     texts.push(b"(lines 4)\n(mct (0 1 2) 3)\n".to_vec());
     texts.push(b"(lines 3)\n(mct (0 1) 2)\n(mct (0 1) 2)\n".to_vec());
+    texts.push(b"(lines 4)\n(mct (-0 1 -2) 3)\n".to_vec());
+    texts.push(b"(lines 3)\n(mct (-0 1) 2)\n(mct (0 -1) 2)\n".to_vec());
     let valid = |random: &mut Random, most| {
         if cascade {
             texts::cascade(random, 12, most)
@@ -118,24 +150,26 @@ fn all_texts(random: &mut Random, program: Program) -> Vec<Vec<u8>> {
             texts::circuit(random, most)
         }
     };
-    for _ in 0..50 {
+    for _ in 0..150 {
         texts.push(valid(random, 150));
     }
-    for _ in 0..40 {
+    for _ in 0..120 {
         let text = valid(random, 60);
         texts.push(texts::damaged(random, &text));
     }
-    for _ in 0..40 {
+    for _ in 0..120 {
         texts.push(texts::wild(random, cascade));
     }
     for size in [59_999, 60_000, 60_001, 60_002, 100_000, 1_000_000] {
         texts.push(texts::of_size(random, size));
     }
-    for count in [256, 257] {
-        texts.push(texts::cascade_of_lines(random, count));
-    }
-    for total in [4_092, 4_096, 4_097] {
-        texts.push(texts::cascade_of_total(random, total));
+    for signs in [Signs::None, Signs::Some, Signs::All] {
+        for count in [256, 257] {
+            texts.push(texts::cascade_of_lines(random, count, signs));
+        }
+        for total in [4_092, 4_096, 4_097, 4_098] {
+            texts.push(texts::cascade_of_total(random, total, signs));
+        }
     }
     for count in [1_000, 4_095, 4_096, 4_097] {
         texts.push(texts::circuit_of(random, count));

@@ -1,5 +1,6 @@
-//! Reduce on all small circuits, and compare on all pairs of smaller ones,
-//! against their whole link classes.
+//! Reduce on all small circuits, map on small cascades with negated controls, and
+//! compare on all pairs of smaller circuits, against their whole link classes; and
+//! small circuits with a minus sign, which are malformed.
 //!
 //! For some lines and some length L, all circuits of at most L gates are nodes,
 //! and each pass and each merge between two of them joins two classes (a step
@@ -14,22 +15,35 @@
 //! get longer, into one circuit. It isn't taken on trust alone: the classes are
 //! computed with bound C and with bound L > C, and have to be the same on the
 //! circuits of at most C gates.
+//!
+//! The expansion of a cascade is longer than that. By the same confluence the
+//! shortest circuits linked to it are all reached from it by passes and forward
+//! merges, so the first of the shortest that are reached is the list expected.
 
 use crate::circuit::{self, merge, pass, records, text, Gate};
+use crate::expansion;
 use crate::report::{shown, Report};
 use crate::subject::{call, compare, holds, Area};
+use crate::texts::{cascade_text, Control, Mct};
 use peer::Job;
 use std::cmp::Ordering;
+use std::collections::HashSet;
 
 /// Lines, C and L.
 const SPACES: [(u8, usize, usize); 4] = [(1, 12, 14), (2, 6, 7), (3, 4, 5), (4, 3, 4)];
 /// The same for the pairs.
 const PAIRS: [(u8, usize, usize); 3] = [(1, 5, 7), (2, 3, 5), (3, 2, 4)];
+/// Lines, gates of a cascade and gates of its expansion, each at most so many.
+const CASCADES: [(u8, usize, usize); 4] = [(1, 3, 3), (2, 4, 12), (3, 2, 14), (4, 1, 9)];
+/// Cascades with a negated control, and circuits with a minus sign.
+const FEWEST_SIGNED: [usize; 2] = [1_000, 300];
 
 pub fn run() -> Report {
     let mut report = Report::new("small");
     all_circuits(&mut report);
     all_pairs(&mut report);
+    cascades(&mut report);
+    signed_circuits(&mut report);
     report
 }
 
@@ -128,6 +142,167 @@ fn pair(report: &mut Report, first: &Listed, second: &Listed) {
             "{} and {} give {outcome:?}, expected {expected}, or another list than expected",
             shown(first.text.inside()),
             shown(second.text.inside())
+        )
+    });
+}
+
+/// Map on all cascades of few gates of up to two controls, of either sign, whose
+/// expansion is short.
+fn cascades(report: &mut Report) {
+    let mut signed = 0;
+    for (lines, most, bound) in CASCADES {
+        let before = report.passed + report.failed;
+        let alphabet = every_mct(lines);
+        let mut all: Vec<Vec<Mct>> = vec![Vec::new()];
+        let mut longest = all.clone();
+        for _ in 0..most {
+            longest = longest
+                .iter()
+                .flat_map(|mcts| {
+                    alphabet
+                        .iter()
+                        .map(move |mct| [&mcts[..], std::slice::from_ref(mct)].concat())
+                })
+                .filter(|mcts| mcts.iter().map(Mct::gates).sum::<usize>() <= bound)
+                .collect();
+            all.extend(longest.clone());
+        }
+        let mut reached = 0;
+        for mcts in all {
+            let negated = mcts.iter().any(|mct| mct.negated().next().is_some());
+            signed += usize::from(negated);
+            let class = forward(&expansion::of_all(&mcts));
+            reached += class.len();
+            // The order of the records is that of the gates.
+            let shortest = class
+                .iter()
+                .min_by_key(|gates| (gates.len(), records(gates)));
+            let expected = shortest.cloned().unwrap_or_default();
+            cascade(report, lines, &mcts, &expected);
+        }
+        println!(
+            "small: {lines} lines, cascades of up to {most} gates: {} cases, {reached} circuits reached",
+            report.passed + report.failed - before
+        );
+    }
+    println!("small: {signed} of the cascades with a negated control");
+    report.case(signed >= FEWEST_SIGNED[0], || {
+        format!("only {signed} cascades with a negated control")
+    });
+}
+
+fn cascade(report: &mut Report, lines: u8, mcts: &[Mct], expected: &[Gate]) {
+    let cascade_text = cascade_text(lines, mcts);
+    let expected_text = text(lines, expected);
+    let mut list = Area::filled(4_096, 0xffff);
+    let mut answer = Area::filled(200, b'?');
+    let outcome = call(
+        Job::Map,
+        &Area::holding(&cascade_text, 0),
+        &mut list,
+        &mut answer,
+    );
+    let passed = (outcome.number, outcome.line) == (0, 0)
+        && outcome.gates as usize == expected.len()
+        && outcome.bytes as usize == expected_text.len()
+        && answer.inside()[..expected_text.len()] == expected_text
+        && holds(&list, &records(expected));
+    report.case(passed, || {
+        let written = (outcome.bytes as usize).min(200);
+        format!(
+            "{} gives {outcome:?} {}, expected {}",
+            shown(&cascade_text),
+            shown(&answer.inside()[..written]),
+            shown(&expected_text)
+        )
+    });
+}
+
+/// Every mct of up to two controls, of either sign, on so many lines.
+fn every_mct(lines: u8) -> Vec<Mct> {
+    let controls = |line| [false, true].map(|negated| Control { line, negated });
+    let mut mcts = Vec::new();
+    for target in 0..lines {
+        let mut add = |controls: Vec<Control>| mcts.push(Mct { controls, target });
+        add(Vec::new());
+        let others: Vec<u8> = (0..lines).filter(|&line| line != target).collect();
+        for (place, &first) in others.iter().enumerate() {
+            for one in controls(first) {
+                add(vec![one]);
+                for &second in &others[place + 1..] {
+                    for other in controls(second) {
+                        add(vec![one, other]);
+                    }
+                }
+            }
+        }
+    }
+    mcts
+}
+
+/// All circuits that passes and forward merges lead to.
+fn forward(start: &[Gate]) -> HashSet<Vec<Gate>> {
+    let mut known = HashSet::from([start.to_vec()]);
+    let mut due = vec![start.to_vec()];
+    while let Some(gates) = due.pop() {
+        for place in 1..gates.len() {
+            let (a, b) = (gates[place - 1], gates[place]);
+            let passed = pass(a, b).then(|| vec![b, a]);
+            for middle in passed.into_iter().chain(merge(a, b)) {
+                let next = [&gates[..place - 1], &middle, &gates[place + 1..]].concat();
+                if known.insert(next.clone()) {
+                    due.push(next);
+                }
+            }
+        }
+    }
+    known
+}
+
+/// Small circuits with a minus sign before any of their numbers: malformed at that
+/// line, for reduce, and for compare as either text.
+fn signed_circuits(report: &mut Report) {
+    let mut signed = 0;
+    for (lines, most) in [(1, 3), (2, 2), (3, 1)] {
+        let space = Space::new(lines);
+        for node in 0..space.circuits_up_to(most) {
+            let circuit_text = text(lines, &space.gates(node));
+            // No number here has two digits.
+            for place in (0..circuit_text.len()).filter(|&p| circuit_text[p].is_ascii_digit()) {
+                let mut with_sign = circuit_text.clone();
+                with_sign.insert(place, b'-');
+                signed += 1;
+                let before = &circuit_text[..place];
+                let line = 1 + before.iter().filter(|&&byte| byte == b'\n').count() as u64;
+                malformed(report, &circuit_text, &with_sign, line);
+            }
+        }
+    }
+    println!("small: {signed} circuits with a minus sign");
+    report.case(signed >= FEWEST_SIGNED[1], || {
+        format!("only {signed} circuits with a minus sign")
+    });
+}
+
+/// One text that is malformed at a line, beside one that is good.
+fn malformed(report: &mut Report, good: &[u8], text: &[u8], line: u64) {
+    let [good, area] = [good, text].map(|text| Area::holding(text, 0));
+    let mut list = Area::filled(4_096, 0xffff);
+    let mut answer = Area::filled(200, b'?');
+    let reduced = call(Job::Reduce, &area, &mut list, &mut answer);
+    let mut lists = [0, 1].map(|_| Area::filled(4_096, 0xffff));
+    let first = compare([&area, &good], lists.each_mut());
+    let second = compare([&good, &area], lists.each_mut());
+    let passed = (reduced.number, reduced.line) == (3, line)
+        && (reduced.gates, reduced.bytes) == (0, 0)
+        && holds(&list, &[])
+        && answer.inside().iter().all(|&byte| byte == b'?')
+        && (first.number, first.line, first.text, first.count) == (3, line, 1, 0)
+        && (second.number, second.line, second.text, second.count) == (3, line, 2, 0);
+    report.case(passed, || {
+        format!(
+            "{} gives {reduced:?}, and to compare {first:?} and {second:?}; expected 3 at line {line}",
+            shown(text)
         )
     });
 }

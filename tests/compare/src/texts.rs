@@ -9,29 +9,94 @@ const EXPANSION: [usize; 16] = [
     1, 1, 5, 16, 24, 46, 68, 84, 100, 144, 188, 232, 276, 308, 340, 372,
 ];
 
+/// A control, met when its line is 1, or when it is 0 if negated.
+#[derive(Clone, Copy)]
+pub struct Control {
+    pub line: u8,
+    pub negated: bool,
+}
+
 #[derive(Clone)]
 pub struct Mct {
-    pub controls: Vec<u8>,
+    pub controls: Vec<Control>,
     pub target: u8,
+}
+
+impl Mct {
+    /// The lines of the controls.
+    pub fn lines(&self) -> Vec<u8> {
+        self.controls.iter().map(|control| control.line).collect()
+    }
+
+    /// The lines of the negated controls.
+    pub fn negated(&self) -> impl Iterator<Item = u8> + '_ {
+        let negated = self.controls.iter().filter(|control| control.negated);
+        negated.map(|control| control.line)
+    }
+
+    /// The gates of its expansion, two of them NOTs for each negated control.
+    pub fn gates(&self) -> usize {
+        EXPANSION[self.controls.len()] + 2 * self.negated().count()
+    }
+
+    fn set_signs(&mut self, random: &mut Random, signs: Signs) {
+        for control in &mut self.controls {
+            control.negated = signs.next(random);
+        }
+    }
+}
+
+/// How many controls of a cascade are negated.
+#[derive(Clone, Copy, PartialEq)]
+pub enum Signs {
+    None,
+    Some,
+    All,
+}
+
+impl Signs {
+    /// Of three cascades one has none, one some and one all.
+    pub fn any(random: &mut Random) -> Signs {
+        random.pick(&[Signs::None, Signs::Some, Signs::All])
+    }
+
+    /// Whether the next control is negated.
+    fn next(self, random: &mut Random) -> bool {
+        match self {
+            Signs::None => false,
+            Signs::Some => random.one_in(2),
+            Signs::All => true,
+        }
+    }
 }
 
 /// A valid mct gate with k controls on so many lines (which leave a spare line
 /// where one is needed).
-pub fn mct(random: &mut Random, lines: u8, k: usize) -> Mct {
+pub fn mct(random: &mut Random, lines: u8, k: usize, signs: Signs) -> Mct {
     let mut named: Vec<u8> = (0..lines).collect();
     random.shuffle(&mut named);
     named.truncate(k + 1);
     let target = named.pop().unwrap();
     named.sort();
+    let controls = named.into_iter().map(|line| Control {
+        line,
+        negated: signs.next(random),
+    });
     Mct {
-        controls: named,
+        controls: controls.collect(),
         target,
     }
 }
 
+/// A number as a control is written.
+fn control_word(number: impl std::fmt::Display, negated: bool) -> String {
+    format!("{}{number}", if negated { "-" } else { "" })
+}
+
 pub fn mct_line(mct: &Mct) -> String {
-    let controls: Vec<String> = mct.controls.iter().map(u8::to_string).collect();
-    format!("(mct ({}) {})\n", controls.join(" "), mct.target)
+    let controls = mct.controls.iter();
+    let words: Vec<String> = controls.map(|c| control_word(c.line, c.negated)).collect();
+    format!("(mct ({}) {})\n", words.join(" "), mct.target)
 }
 
 pub fn cascade_text(lines: u8, mcts: &[Mct]) -> Vec<u8> {
@@ -62,43 +127,60 @@ pub fn some_lines(random: &mut Random) -> u8 {
 /// A valid cascade with at most so many gates in its expansion.
 pub fn cascade(random: &mut Random, most_mcts: usize, most_gates: usize) -> Vec<u8> {
     let lines = some_lines(random);
+    let signs = Signs::any(random);
+    cascade_text(lines, &mcts(random, lines, most_mcts, most_gates, signs))
+}
+
+/// The gates of such a cascade.
+pub fn mcts(
+    random: &mut Random,
+    lines: u8,
+    most_mcts: usize,
+    most_gates: usize,
+    signs: Signs,
+) -> Vec<Mct> {
     let mut left = most_gates;
     let mut mcts: Vec<Mct> = Vec::new();
     for _ in 0..random.below(most_mcts + 1) {
-        let k = random.below(most_controls(lines) + 1);
-        if EXPANSION[k] > left {
-            break;
-        }
-        left -= EXPANSION[k];
+        // Some gates are taken again, perhaps with other signs.
         let new = if random.one_in(5) && !mcts.is_empty() {
             let known = random.below(mcts.len());
-            mcts[known].clone()
+            let mut again = mcts[known].clone();
+            if random.one_in(2) {
+                again.set_signs(random, signs);
+            }
+            again
         } else {
-            mct(random, lines, k)
+            let k = random.below(most_controls(lines) + 1);
+            mct(random, lines, k, signs)
         };
-        // A gate taken again may be longer than the k that was paid for.
-        let paid = EXPANSION[k];
-        let due = EXPANSION[new.controls.len()];
-        if due > paid + left {
+        if new.gates() > left {
             break;
         }
-        left = left + paid - due;
+        left -= new.gates();
         mcts.push(new);
     }
-    cascade_text(lines, &mcts)
+    mcts
 }
 
 /// A cascade whose expansion has exactly so many gates, in a random order. A
 /// total past 4,096 is passed with its last line only.
-pub fn cascade_of_total(random: &mut Random, total: usize) -> Vec<u8> {
+pub fn cascade_of_total(random: &mut Random, total: usize, signs: Signs) -> Vec<u8> {
     let lines = random.between(17, 32) as u8;
     let mut left = total;
     let mut mcts = Vec::new();
     while left > 0 {
         let fitting = EXPANSION.iter().filter(|&&gates| gates <= left).count();
         let k = fitting - 1 - random.below(fitting.min(4));
-        left -= EXPANSION[k];
-        mcts.push(mct(random, lines, k));
+        let mut new = mct(random, lines, k, signs);
+        // Signs for which no gates are left are dropped.
+        for control in 0..k {
+            if new.gates() > left {
+                new.controls[control].negated = false;
+            }
+        }
+        left -= new.gates();
+        mcts.push(new);
     }
     random.shuffle(&mut mcts);
     cascade_text(lines, &mcts)
@@ -106,12 +188,12 @@ pub fn cascade_of_total(random: &mut Random, total: usize) -> Vec<u8> {
 
 /// So many mct lines, all of few controls, so that the number of lines is the
 /// limit and not the expansion.
-pub fn cascade_of_lines(random: &mut Random, count: usize) -> Vec<u8> {
+pub fn cascade_of_lines(random: &mut Random, count: usize, signs: Signs) -> Vec<u8> {
     let lines = random.between(5, 32) as u8;
     let mcts: Vec<Mct> = (0..count)
         .map(|_| {
             let k = random.pick(&[0, 1, 1, 2, 2, 2, 3]);
-            mct(random, lines, k)
+            mct(random, lines, k, signs)
         })
         .collect();
     cascade_text(lines, &mcts)
@@ -209,7 +291,7 @@ fn damage(random: &mut Random, text: &mut Vec<u8>) {
         return;
     }
     let place = random.below(text.len());
-    match random.below(18) {
+    match random.below(22) {
         // Any byte in the place of one, or put in, or one taken away.
         0 => text[place] = random.next() as u8,
         1 => text.insert(place, random.next() as u8),
@@ -217,8 +299,8 @@ fn damage(random: &mut Random, text: &mut Vec<u8>) {
             text.remove(place);
         }
         // Bytes that the texts are made of.
-        3 => text[place] = random.pick(b"()0123456789 \nlinesmctovp"),
-        4 => text.insert(place, random.pick(b"()0123456789 \nlinesmctovp")),
+        3 => text[place] = random.pick(b"()0123456789 \n-linesmctovp"),
+        4 => text.insert(place, random.pick(b"()0123456789 \n-linesmctovp")),
         // Cut, at either end.
         5 => text.truncate(place),
         6 => {
@@ -281,6 +363,8 @@ fn damage(random: &mut Random, text: &mut Vec<u8>) {
         }
         // Upper case.
         16 => text[place] = text[place].to_ascii_uppercase(),
+        // Minus signs.
+        17..=20 => damage_sign(random, text, place),
         // A line twice, or two lines exchanged.
         _ => {
             let mut lines: Vec<Vec<u8>> = text
@@ -295,6 +379,47 @@ fn damage(random: &mut Random, text: &mut Vec<u8>) {
             }
             *text = lines.concat();
         }
+    }
+}
+
+/// A minus sign put in, taken away, doubled, moved or written otherwise.
+fn damage_sign(random: &mut Random, text: &mut Vec<u8>, place: usize) {
+    let places = |of: &dyn Fn(usize) -> bool| -> Vec<usize> {
+        (0..text.len()).filter(|&place| of(place)).collect()
+    };
+    let numbers = places(&|p| text[p].is_ascii_digit() && !(p > 0 && text[p - 1].is_ascii_digit()));
+    let signs = places(&|p| text[p] == b'-');
+    let change = if signs.is_empty() {
+        random.below(5)
+    } else {
+        random.below(10)
+    };
+    match change {
+        // Before any number: of line 1, of a control, of a target, of a gate.
+        0..=3 if !numbers.is_empty() => text.insert(random.pick(&numbers), b'-'),
+        5 => {
+            text.remove(random.pick(&signs));
+        }
+        6 => text.insert(random.pick(&signs), b'-'),
+        7 => {
+            text.remove(random.pick(&signs));
+            text.insert(place.min(text.len()), b'-');
+        }
+        8 | 9 => {
+            let sign = random.pick(&signs);
+            let otherwise: &[u8] = random.pick(&[
+                b"+" as &[u8],
+                b"- ",
+                b" -",
+                b"-0",
+                b"-+",
+                b"~",
+                b"\xe2\x88\x92",
+            ]);
+            text.splice(sign..=sign, otherwise.iter().copied());
+        }
+        // Anywhere.
+        _ => text.insert(place, b'-'),
     }
 }
 
@@ -335,14 +460,22 @@ fn wild_mct(random: &mut Random, lines: u8) -> String {
             _ => {}
         }
     }
-    let controls: Vec<String> = controls.iter().map(usize::to_string).collect();
+    let signs = Signs::any(random);
+    let controls: Vec<String> = controls
+        .iter()
+        .map(|control| control_word(control, signs.next(random)))
+        .collect();
     format!("(mct ({}) {target})\n", controls.join(" "))
 }
 
-/// A circuit line in form that may break rules 4 and 5.
+/// A circuit line in form that may break rules 4 and 5; seldom one with a sign,
+/// which no circuit has in form.
 fn wild_gate(random: &mut Random, lines: u8) -> String {
     let bound = usize::from(lines) + random.pick(&[0, 0, 0, 1, 3]);
-    let (control, target) = (random.below(bound), random.below(bound));
+    let [control, target] = [0, 1].map(|_| {
+        let negated = random.one_in(60);
+        control_word(random.below(bound), negated)
+    });
     match random.below(4) {
         0 => format!("(not {target})\n"),
         1 => format!("(cn {control} {target})\n"),
@@ -372,7 +505,8 @@ pub fn wild(random: &mut Random, cascade: bool) -> Vec<u8> {
             let k = random
                 .below(most_controls(lines) + 1)
                 .min(random.between(1, 15));
-            text += &mct_line(&mct(random, lines, k));
+            let signs = Signs::any(random);
+            text += &mct_line(&mct(random, lines, k, signs));
         } else if wild {
             text += &wild_gate(random, lines);
         } else {
@@ -391,6 +525,12 @@ pub fn wild(random: &mut Random, cascade: bool) -> Vec<u8> {
                 "(not 0)",
                 "(mct () 00)\n",
                 "(v 0)\n",
+                "(mct () -0)\n",
+                "(mct (--0) 1)\n",
+                "(mct (- 0) 1)\n",
+                "(mct (-00) 1)\n",
+                "(not -0)\n",
+                "(cn -0 1)\n",
             ]);
         }
     }
@@ -441,6 +581,14 @@ pub fn of_size(random: &mut Random, size: usize) -> Vec<u8> {
             }
             text.extend_from_slice(b") 0)\n");
             assert_eq!(text.len(), size);
+            // A sign and one digit are as long as two digits: with all of them so,
+            // rule 6 answers and not rule 4.
+            let signs = Signs::any(random);
+            for place in 1..text.len() {
+                if text[place - 1..=place] == *b"99" && signs.next(random) {
+                    text[place - 1] = b'-';
+                }
+            }
         }
         // Circuit lines, more than 4,096 where they are short, the last cut.
         6 => {
@@ -459,7 +607,8 @@ pub fn of_size(random: &mut Random, size: usize) -> Vec<u8> {
         }
         // A full cascade and then one malformed line to the end.
         _ => {
-            text = cascade_of_lines(random, 256);
+            let signs = Signs::any(random);
+            text = cascade_of_lines(random, 256, signs);
             text.resize(size - 1, b'(');
             text.push(b'\n');
         }
@@ -468,11 +617,14 @@ pub fn of_size(random: &mut Random, size: usize) -> Vec<u8> {
 }
 
 /// Small valid texts from which every single change is tried.
-pub const SMALL: [&str; 8] = [
+pub const SMALL: [&str; 11] = [
     "(lines 3)\n(mct (0 1) 2)\n",
     "(lines 5)\n(mct (0 1 2) 3)\n(mct () 4)\n",
     "(lines 17)\n(mct (9 10 11 16) 0)\n(mct (3) 12)\n",
     "(lines 32)\n(mct (30) 31)\n",
+    "(lines 2)\n(mct (-0) 1)\n",
+    "(lines 3)\n(mct (0 -1) 2)\n(mct (-0 -2) 1)\n",
+    "(lines 14)\n(mct (-0 1 -12) 5)\n(mct (-10) 0)\n",
     "(lines 2)\n(v 0 1)\n(v 0 1)\n",
     "(lines 3)\n(cn 0 2)\n(not 2)\n(vp 1 2)\n",
     "(lines 12)\n(not 10)\n(cn 11 0)\n(v 1 10)\n",
@@ -496,7 +648,7 @@ pub fn every_change(text: &[u8]) -> Vec<Vec<u8>> {
         texts.push(text[place..].to_vec());
     }
     for place in 0..=text.len() {
-        for value in b"()0123456789 \n\r\t\0lmncvpx\x7f\x80\xff" {
+        for value in b"()0123456789 \n\r\t\0-+lmncvpx\x7f\x80\xff" {
             let mut longer = text.to_vec();
             longer.insert(place, *value);
             texts.push(longer);

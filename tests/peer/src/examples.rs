@@ -53,7 +53,7 @@ fn answered(job: Job, text: &str) -> (String, u64) {
     (answer, gates)
 }
 
-fn mapped(text: &str) -> String {
+pub fn mapped(text: &str) -> String {
     answered(Job::Map, text).0
 }
 
@@ -63,7 +63,7 @@ fn reduced_to(text: &str, expected: &str) {
 
 /// The gates that map counts with an empty area, which have to be those that it
 /// gives with any other.
-fn quoted(text: &str) -> u64 {
+pub fn quoted(text: &str) -> u64 {
     let (outcome, _, list) = run(Job::Map, text, 0);
     assert_eq!(outcome, accepted(outcome.gates, 0));
     assert_eq!(answered(Job::Map, text).1, outcome.gates);
@@ -72,7 +72,7 @@ fn quoted(text: &str) -> u64 {
 }
 
 /// The number and line of a text that is refused whatever area is lent.
-fn refused(job: Job, text: &str) -> (u64, u64) {
+pub fn refused(job: Job, text: &str) -> (u64, u64) {
     let (outcome, _, _) = run(job, text, 50_000);
     assert_ne!(outcome.number, 0);
     assert_eq!((outcome.gates, outcome.bytes), (0, 0));

@@ -2,6 +2,16 @@
 
 use crate::gate::Gate;
 
+/// Appends the expansion of the gate on `target` with these controls, of which
+/// some are negated: a NOT on each negated line before the expansion of the gate
+/// without signs, and again after it. Both rise strictly.
+pub fn expand_negated(controls: &[u8], negated: &[u8], target: u8, gates: &mut Vec<Gate>) {
+    let nots = || negated.iter().map(|&line| Gate::not(line));
+    gates.extend(nots());
+    expand(controls, target, gates);
+    gates.extend(nots());
+}
+
 /// Appends the expansion of the gate on `target` with these controls, which
 /// rise strictly and leave a spare line if there are three or more.
 pub fn expand(controls: &[u8], target: u8, gates: &mut Vec<Gate>) {

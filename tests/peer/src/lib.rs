@@ -262,3 +262,5 @@ fn whole_text(source: impl Read) -> io::Result<Vec<u8>> {
 
 #[cfg(test)]
 mod examples;
+#[cfg(test)]
+mod negated;

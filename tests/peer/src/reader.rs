@@ -35,7 +35,10 @@ pub fn read(kind: Kind, text: &[u8]) -> Result<Circuit, Refusal> {
         lines,
         gates: Vec::new(),
     };
-    let mut controls = Vec::with_capacity(16);
+    let mut controls = Controls {
+        lines: Vec::with_capacity(16),
+        negated: Vec::with_capacity(16),
+    };
     while !rest.is_empty() {
         line_number += 1;
         let tried = match next_line(&mut rest) {
@@ -56,15 +59,27 @@ pub fn read(kind: Kind, text: &[u8]) -> Result<Circuit, Refusal> {
     Ok(circuit)
 }
 
+/// The controls of one mct line, in the order of the text.
+struct Controls {
+    /// The line of each, whatever its sign: all that rules 4 to 8 see.
+    lines: Vec<u8>,
+    /// The lines of those with a minus sign.
+    negated: Vec<u8>,
+}
+
 /// One mct line, rules 3 to 9.
 fn read_mct(
     line: &[u8],
     circuit: &mut Circuit,
-    controls: &mut Vec<u8>,
+    controls: &mut Controls,
     mcts_before: usize,
 ) -> Result<(), u64> {
     let lines = circuit.lines;
     let target = mct_form(line, controls).ok_or(MALFORMED)?;
+    let Controls {
+        lines: controls,
+        negated,
+    } = controls;
     if target >= lines || controls.iter().any(|&control| control >= lines) {
         return Err(NO_SUCH_LINE);
     }
@@ -83,7 +98,7 @@ fn read_mct(
     if mcts_before >= MOST_MCTS {
         return Err(TOO_MANY);
     }
-    expansion::expand(controls, target, &mut circuit.gates);
+    expansion::expand_negated(controls, negated, target, &mut circuit.gates);
     if circuit.gates.len() > MOST_GATES {
         return Err(TOO_MANY);
     }
@@ -121,14 +136,20 @@ fn header_form(line: &[u8]) -> Option<u8> {
     (rest == b")").then_some(lines)
 }
 
-/// `(mct (c1 c2 .. ck) t)`; gives the target, the controls into the vector.
-fn mct_form(line: &[u8], controls: &mut Vec<u8>) -> Option<u8> {
-    controls.clear();
+/// `(mct (c1 c2 .. ck) t)`, where each control may have a minus sign directly
+/// before it; gives the target, and the controls into what is lent for them.
+fn mct_form(line: &[u8], controls: &mut Controls) -> Option<u8> {
+    controls.lines.clear();
+    controls.negated.clear();
     let mut rest = line.strip_prefix(b"(mct (")?;
     if rest.first() != Some(&b')') {
         loop {
-            let (control, after) = number(rest)?;
-            controls.push(control);
+            let unsigned = rest.strip_prefix(b"-");
+            let (control, after) = number(unsigned.unwrap_or(rest))?;
+            controls.lines.push(control);
+            if unsigned.is_some() {
+                controls.negated.push(control);
+            }
             match after.strip_prefix(b" ") {
                 Some(next) => rest = next,
                 None => {

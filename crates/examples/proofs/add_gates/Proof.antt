@@ -9,13 +9,10 @@ use Rattle.examples.proofs.add_gates.Statement.{statement}
 use Rattle.examples.proofs.add_gates.Tie as tie
 
 abbrev Inv-loop : tie.InvT-loop
-Inv-loop text₀ count end₀ i₀ t6 text end i = (end ≤ length text) × (length text ≡ length text₀)
+Inv-loop text₀ front count end₀ i₀ t6 text end i = (end ≤ length text) × (length text ≡ length text₀)
 
 abbrev μ-loop : tie.MeasureT-loop
-μ-loop text₀ count end₀ i₀ t6 text end i = count - i
-
-slice-aggregate-add : tie.Need-slice-aggregate-add Inv-loop μ-loop
-slice-aggregate-add c = search needs
+μ-loop text₀ front count end₀ i₀ t6 text end i = count - i
 
 add-requires : tie.Need-add-requires Inv-loop μ-loop
 add-requires c κs = search needs
@@ -23,8 +20,8 @@ add-requires c κs = search needs
 loop-holds : tie.Need-loop-holds Inv-loop μ-loop
 loop-holds c = (c .before .before .add .ensures, refl)
 
-slice-aggregate-add-2 : tie.Need-slice-aggregate-add-2 Inv-loop μ-loop
-slice-aggregate-add-2 c = search needs
+slice-aggregate-add : tie.Need-slice-aggregate-add Inv-loop μ-loop
+slice-aggregate-add c = search needs
 
 add-requires-2 : tie.Need-add-requires-2 Inv-loop μ-loop
 add-requires-2 c κs = search needs
@@ -50,10 +47,9 @@ add-gates-spec =
     (tie.spec
     Inv-loop
     μ-loop
-    slice-aggregate-add
     add-requires
     loop-holds
-    slice-aggregate-add-2
+    slice-aggregate-add
     add-requires-2
     add-i
     loop-less

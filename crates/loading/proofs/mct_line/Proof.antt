@@ -6,6 +6,7 @@ use lib.ListN.{drop}
 use Rattle.text.specs.Reading.{parse}
 use Rattle.reading.specs.declared.TargetForm.{TargetForm}
 use Rattle.reading.specs.Seen.{seen-target, only-mct}
+use Rattle.reading.proofs.Gathered.{negated-few}
 use Rattle.reading.proofs.Places.{told}
 use Rattle.loading.specs.Seen.{seen-verdict}
 use Rattle.loading.proofs.Lines.{mct-lines, line-malformed, line-sound, line-broken, with-gathered-is, with-gathered-none}
@@ -33,7 +34,14 @@ returns c =
     (λ l e. line-malformed mct-lines (a .head) (a .before) l s (with-gathered-none (only-mct (parse s)) h), refl)
 
 mct-rules-requires : tie.Need-mct-rules-requires
-mct-rules-requires c κs = search needs
+mct-rules-requires c κs =
+    let b = c .before in
+    let e = b .before .before .before .before .before in
+    let a = e .args in
+    let x = b .before .before .before .read-mct in
+    let s = drop (a .at) (now (a .s)) in
+    let g = with-gathered-is (only-mct (parse s)) (told (λ (e : TargetForm). seen-target (now (a .s)) e (x .result .controls)) (x .ensures .0) (b .target .given .1)) in
+    (e .pre .1 .0, (e .pre .1 .1 .1, negated-few (g .0) (g .1)))
 
 enum-known-r : tie.Need-enum-known-r
 enum-known-r c = search needs

@@ -19,9 +19,9 @@ try-rules-requires c κs = search needs
 
 returns : tie.Need-returns
 returns c = λ cs l q e.
-    let b = c .before .before .before .before .before .before in
+    let b = c .before .before .before .before .before .before .before .before in
     let o = ⊎-elim (λ w. either-first _ _ _ (w .0 .taken) (w .1)) (λ w. either-second _ _ _ (w .0 .left) (w .2)) (c .before .before .before .before .before .if1 .came) in
-    rw (c .try-rules .ensures) (mct-tried (b .args .head) cs (b .args .t) (b .args .before) (b .args .total) l (b .args .a) (b .pre .0 .0) (b .pre .0 .1) q e
+    rw (c .try-rules .ensures) (mct-tried (b .args .head) cs (b .args .t) (b .args .before) l (b .args .total) (b .args .a) (b .pre .0 .0) (b .pre .0 .1) q e
     o (c .before .before .before .marked .ensures) (c .before .before .no-spare .ensures) (c .before .too-many .ensures))
 
 pub mct-rules-spec : {M : Type 1} → statement M

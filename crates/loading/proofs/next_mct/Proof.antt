@@ -2,7 +2,7 @@
 use borrow.Author.Needs.{needs}
 use mathlib.Core.Path.{refl}
 use native.Mathlib.Omega.{arith}
-use Rattle.loading.proofs.Loading.{circuit-count, refused, count-there, expansion-fits-at, mct-taken}
+use Rattle.loading.proofs.Loading.{circuit-count, refused, counts-there, expansion-fits-at, mct-taken}
 use Rattle.loading.proofs.next_mct.Statement.{statement}
 use Rattle.loading.proofs.next_mct.Tie as tie
 
@@ -18,7 +18,7 @@ expand-mct-requires c κs =
     let w = y .before .before .before .pre in
     let x = rw (c .before .before .target .given .1) at (y .mct-line .ensures .0) in
     let e = x .2 _ (circuit-count w) in
-    (count-there {cs = x .0} w (x .1) e, expansion-fits-at {cs = x .0} w (x .1) e)
+    (counts-there {cs = x .0} w (x .1) e, expansion-fits-at {cs = x .0} w (x .1) e)
 
 add-t19 : tie.Need-add-t19
 add-t19 c = search needs

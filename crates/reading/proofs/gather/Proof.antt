@@ -6,13 +6,13 @@ use lib.ListN.{length, drop, length-drop}
 use borrow.Author.Needs.{needs}
 use Rattle.text.specs.Reading.{controls}
 use Rattle.reading.specs.declared.Controls.{Controls}
-use Rattle.reading.specs.Seen.{no-controls, noted, gathered, all-gathered}
-use Rattle.reading.proofs.Gathering.{rest, rest-none, rest-last, rest-more}
+use Rattle.reading.specs.Seen.{no-lines, no-controls, added, noted, gathered, all-gathered}
+use Rattle.reading.proofs.Gathering.{noted-few, rest, rest-none, rest-last, rest-more}
 use Rattle.reading.proofs.gather.Statement.{statement}
 use Rattle.reading.proofs.gather.Tie as tie
 
 abbrev Inv-loop : tie.InvT-loop
-Inv-loop s at sum₀ p₀ sum p = (at ≤ p) × (p ≤ length s) × (sum .count ≤ p) × ((k : ℕ) × (length s - p ≤ k) × (all-gathered (controls (length (drop at s)) (drop at s)) ≡ rest s sum k p))
+Inv-loop s at sum₀ p₀ sum p = (at ≤ p) × (p ≤ length s) × (sum .lines .count ≤ p) × (sum .negated .count ≤ p) × ((k : ℕ) × (length s - p ≤ k) × (all-gathered (controls (length (drop at s)) (drop at s)) ≡ rest s sum k p))
 
 abbrev μ-loop : tie.MeasureT-loop
 μ-loop s at sum₀ p₀ sum p = length s - p
@@ -22,13 +22,14 @@ no-controls-requires c κs =
     search needs
 
 loop-holds : tie.Need-loop-holds Inv-loop μ-loop
-unfolding no-controls gathered all-gathered
+unfolding no-controls no-lines gathered all-gathered
 loop-holds c =
     let a = c .before .before .args in
     let s = a .s .now in
     let e = c .no-controls .ensures in
-    let z : c .no-controls .result .count ≡ 0 = ap (λ (x : Controls). x .count) e in
-    (omega arith, omega arith, omega arith, (length (drop (a .at) s), rw (length-drop (a .at) s) (omega arith), rw e))
+    let z : c .no-controls .result .lines .count ≡ 0 = ap (λ (x : Controls). x .lines .count) e in
+    let y : c .no-controls .result .negated .count ≡ 0 = ap (λ (x : Controls). x .negated .count) e in
+    (omega arith, omega arith, omega arith, omega arith, (length (drop (a .at) s), rw (length-drop (a .at) s) (omega arith), rw e))
 
 one-control-requires : tie.Need-one-control-requires Inv-loop μ-loop
 one-control-requires c κs =
@@ -55,11 +56,12 @@ loop-again c =
     let s = l .before .before .before .args .s .now in
     let q = m .c .given .0 in
     let h = rw (m .c .given .1) at (o .one-control .ensures) in
-    let v = l .loop .inv .3 in
+    let v = l .loop .inv .4 in
     let w = rest-more s (l .loop .sum) (v .0) (l .loop .p) (q .1 .0) (q .0) (h .0) (omega arith) (v .1) in
     let n = c .note .ensures in
-    let z : c .note .result .count ≡ l .loop .sum .count + 1 = unfold noted in ap (λ (x : Controls). x .count) n in
-    (omega arith, omega arith, omega arith, (w .0, omega (arith, w .1), rw n (v .2 ∙ w .2)))
+    let z : c .note .result .lines .count ≡ l .loop .sum .lines .count + 1 = unfold noted added in ap (λ (x : Controls). x .lines .count) n in
+    let y : c .note .result .negated .count ≤ l .loop .sum .negated .count + 1 = rw n (noted-few (l .loop .sum) (q .0)) in
+    (omega arith, omega arith, omega arith, omega arith, (w .0, omega (arith, w .1), rw n (v .2 ∙ w .2)))
 
 enum-known-c-2 : tie.Need-enum-known-c-2 Inv-loop μ-loop
 enum-known-c-2 c = search needs
@@ -77,7 +79,7 @@ returns c =
     let s = l .before .before .before .args .s .now in
     let q = m .c2 .given .0 in
     let h = rw (m .c2 .given .1) at (o .one-control .ensures) in
-    let v = l .loop .inv .3 in
+    let v = l .loop .inv .4 in
     let n = c .note2 .ensures in
     let w = rest-last s (l .loop .sum) (v .0) (l .loop .p) (q .1 .0) (q .0) (h .0) (omega arith) (v .1) in
     (rw n (v .2 ∙ w), omega arith, omega arith)
@@ -91,7 +93,7 @@ returns-2 c =
     let l = o .before in
     let s = l .before .before .before .args .s .now in
     let h = rw (c .enum-told .given .1) at (o .one-control .ensures) in
-    let v = l .loop .inv .3 in
+    let v = l .loop .inv .4 in
     v .2 ∙ rest-none s (l .loop .sum) (v .0) (l .loop .p) h
 
 pub gather-spec : {M : Type 1} → statement M

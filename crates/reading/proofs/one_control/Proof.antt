@@ -1,83 +1,58 @@
 -- `reading::one_control` meets its contract. Assumes nothing.
+use mathlib.Core.Path.{_∙_}
+use native.Mathlib.Nat.{le-refl}
 use lib.ListN.{drop}
-use Rattle.reading.proofs.Lines.{control-delimited}
+use Rattle.reading.proofs.Lines.{control-signed}
+use Rattle.reading.proofs.Places.{control-further}
 use borrow.Author.Needs.{needs}
 use Rattle.reading.proofs.one_control.Statement.{statement}
 use Rattle.reading.proofs.one_control.Tie as tie
 
-slice-aggregate-delimited-number : tie.Need-slice-aggregate-delimited-number
-slice-aggregate-delimited-number c = search needs
+slice-aggregate-word : tie.Need-slice-aggregate-word
+slice-aggregate-word c = search needs
 
-slice-aggregate-delimited-number-2 : tie.Need-slice-aggregate-delimited-number-2
-slice-aggregate-delimited-number-2 c = search needs
+word-requires : tie.Need-word-requires
+word-requires c κs = search needs
 
-delimited-number-requires : tie.Need-delimited-number-requires
-delimited-number-requires c κs = search needs
+enum-known-p : tie.Need-enum-known-p
+enum-known-p c = search needs
 
-enum-known-c : tie.Need-enum-known-c
-enum-known-c c = search needs
+control-number-requires : tie.Need-control-number-requires
+control-number-requires c κs =
+    let i = rw (c .before .p .given .1) at (c .before .before .before .word .ensures) in
+    i .2
 
 returns : tie.Need-returns
 returns c =
-    let m = c .before in
-    let n = m .before .before in
-    let a = n .before .before .before .before .args in
-    let i = rw (m .c .given .1) at (n .delimited-number .ensures) in
-    (rw (control-delimited (drop (a .at) (a .s .now)), i .0), i .1)
+    let p = c .before .before in
+    let w = p .before .before in
+    let a = w .before .before .before .args in
+    let i = rw (p .p .given .1) at (w .word .ensures) in
+    control-further (a .s .now) (a .at) _ _ _ (c .control-number .result) (i .1) (control-signed (drop (a .at) (a .s .now)) ∙ rw (i .0)) (c .control-number .ensures)
 
 enum-told : tie.Need-enum-told
 enum-told c = search needs
 
-slice-aggregate-delimited-number-3 : tie.Need-slice-aggregate-delimited-number-3
-slice-aggregate-delimited-number-3 c = search needs
-
-slice-aggregate-delimited-number-4 : tie.Need-slice-aggregate-delimited-number-4
-slice-aggregate-delimited-number-4 c = search needs
-
-delimited-number-requires-2 : tie.Need-delimited-number-requires-2
-delimited-number-requires-2 c κs = search needs
-
-enum-known-c-2 : tie.Need-enum-known-c-2
-enum-known-c-2 c = search needs
-
-enum-told-2 : tie.Need-enum-told-2
-enum-told-2 c = search needs
+control-number-requires-2 : tie.Need-control-number-requires-2
+control-number-requires-2 c κs = search needs
 
 returns-2 : tie.Need-returns-2
 returns-2 c =
-    let n = c .before .before in
-    let m = n .before .before .before in
-    let l = m .before .before in
-    let a = l .before .before .before .before .args in
-    let i = rw (m .enum-told .given .1) at (l .delimited-number .ensures) in
-    let j = rw (c .enum-told2 .given .1) at (n .delimited-number2 .ensures) in
-    rw (control-delimited (drop (a .at) (a .s .now)), i, j)
-
-returns-3 : tie.Need-returns-3
-returns-3 c =
     let t = c .before in
-    let n = t .before .before in
-    let m = n .before .before .before in
-    let l = m .before .before in
-    let a = l .before .before .before .before .args in
-    let i = rw (m .enum-told .given .1) at (l .delimited-number .ensures) in
-    let j = rw (t .c2 .given .1) at (n .delimited-number2 .ensures) in
-    (rw (control-delimited (drop (a .at) (a .s .now)), i, j .0), j .1)
+    let w = t .before .before in
+    let a = w .before .before .before .args in
+    let i = rw (t .enum-told .given .1) at (w .word .ensures) in
+    control-further (a .s .now) (a .at) _ _ _ (c .control-number2 .result) (le-refl (a .at)) (control-signed (drop (a .at) (a .s .now)) ∙ rw i) (c .control-number2 .ensures)
 
 pub one-control-spec : {M : Type 1} → statement M
 one-control-spec =
     tie.close
     (tie.spec
-    slice-aggregate-delimited-number
-    slice-aggregate-delimited-number-2
-    delimited-number-requires
-    enum-known-c
+    slice-aggregate-word
+    word-requires
+    enum-known-p
+    control-number-requires
     returns
     enum-told
-    slice-aggregate-delimited-number-3
-    slice-aggregate-delimited-number-4
-    delimited-number-requires-2
-    enum-known-c-2
-    enum-told-2
-    returns-2
-    returns-3)
+    control-number-requires-2
+    returns-2)

@@ -1,0 +1,12 @@
+-- `reading::no_lines` meets its contract. Assumes nothing.
+use mathlib.Core.Path.{refl}
+use Rattle.reading.specs.Seen.{no-lines}
+use Rattle.reading.proofs.no_lines.Statement.{statement}
+use Rattle.reading.proofs.no_lines.Tie as tie
+
+returns : tie.Need-returns
+unfolding no-lines
+returns c = refl
+
+pub no-lines-spec : {M : Type 1} → statement M
+no-lines-spec = tie.close (tie.spec returns)
