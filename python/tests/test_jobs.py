@@ -1,5 +1,5 @@
-"""The jobs on document 01's examples and on negated controls, from the module and from
-the programs.
+"""The jobs on document 01's examples, on negated controls and on spare lines, from the
+module and from the programs.
 
 The environment variable YILGORZA_BIN names the folder of the programs; else it
 is target/bin of the repository.
@@ -18,6 +18,8 @@ from pathlib import Path
 import yilgorza
 from texts import (
     CIRCUIT_REFUSALS,
+    FIVE,
+    FIVE_MAPPED,
     NEGATED,
     PROGRAMS,
     QUOTES,
@@ -84,6 +86,28 @@ class Module(unittest.TestCase):
                     for form in (signed, plain)
                 ]
                 self.assertEqual(counts[0], counts[1] + 2 * signs.count("-"), signed)
+
+    def test_spare_lines(self):
+        self.assertEqual(yilgorza.map(FIVE).text, FIVE_MAPPED)
+        example = REPOSITORY / "examples/texts/five.cascade"
+        self.assertEqual(example.read_bytes(), FIVE)
+
+    def test_the_quote_of_a_gate_goes_by_how_many_lines_are_unnamed(self):
+        # Whichever they are: five controls, and one line unnamed or two.
+        for lines, count in ((7, 42), (8, 32)):
+            for controls in itertools.combinations(range(lines), 5):
+                form = f"(mct ({' '.join(map(str, controls))}) %d)"
+                for target in set(range(lines)) - set(controls):
+                    text = typed(f"(lines {lines})", form % target)
+                    self.assertEqual(yilgorza.quote(text).count, count, text)
+
+    def test_further_lines_make_no_difference_to_four_controls(self):
+        for controls in ("0 1 2", "0 1 2 3", "0 -1 2 -3"):
+            form = f"(mct ({controls}) 4)"
+            gates = yilgorza.map(typed("(lines 6)", form)).gates
+            for lines in range(7, 33):
+                longer = yilgorza.map(typed(f"(lines {lines})", form))
+                self.assertEqual(longer.gates, gates)
 
     def test_quotes(self):
         for text, count in QUOTES:
@@ -248,6 +272,7 @@ class Programs(unittest.TestCase):
 
     def test_map_and_quote(self):
         self.assertEqual(self.written("map", TOFFOLI), TOFFOLI_MAPPED)
+        self.assertEqual(self.written("map", FIVE), FIVE_MAPPED)
         for text, count in QUOTES:
             with self.subTest(text):
                 self.assertEqual(

@@ -252,7 +252,7 @@ class Documentation(unittest.TestCase):
 
     def test_examples_of_the_page(self):
         page = str(REPOSITORY / "python/README.md")
-        self.assertEqual(doctest.testfile(page, module_relative=False), (0, 19))
+        self.assertEqual(doctest.testfile(page, module_relative=False), (0, 21))
 
 
 if __name__ == "__main__":

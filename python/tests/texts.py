@@ -1,4 +1,5 @@
-"""Texts of document 01's examples and their answers, and places in the repository."""
+"""Texts of document 01's examples and others, their answers, and places in the
+repository."""
 
 from __future__ import annotations
 
@@ -29,6 +30,43 @@ TOFFOLI_GATES = (
     Gate(Kind.CN, 0, 1),
     Gate(Kind.VP, 1, 2),
     Gate(Kind.CN, 0, 1),
+)
+# Five controls: the gate borrows line 6, and of its smaller gates M1 line 7.
+FIVE = typed("(lines 8)", "(mct (0 1 2 3 4) 5)")
+FIVE_MAPPED = typed(
+    "(lines 8)",
+    "(v 6 5)",
+    "(v 0 6)",
+    "(v 1 6)",
+    "(cn 0 1)",
+    "(vp 1 6)",
+    "(vp 6 5)",
+    "(v 7 6)",
+    "(cn 2 7)",
+    "(vp 7 6)",
+    "(v 3 7)",
+    "(v 4 7)",
+    "(cn 3 4)",
+    "(vp 4 7)",
+    "(v 7 6)",
+    "(cn 2 7)",
+    "(vp 7 6)",
+    "(v 6 5)",
+    "(vp 0 6)",
+    "(v 1 6)",
+    "(cn 0 1)",
+    "(vp 1 6)",
+    "(vp 6 5)",
+    "(v 7 6)",
+    "(cn 2 7)",
+    "(vp 7 6)",
+    "(vp 3 7)",
+    "(v 4 7)",
+    "(cn 3 4)",
+    "(vp 4 7)",
+    "(v 7 6)",
+    "(cn 2 7)",
+    "(vp 7 6)",
 )
 WIDE = "(mct (0 1 2 3 4 5 6 7 8 9 10 11 12 13 14) 15)"
 # The same gate with one, two and three controls negated.
@@ -70,8 +108,31 @@ NEGATED = [
     ),
 ]
 
+# Gates with spare lines, and their quotes: the expansion by document 02's order of
+# spare lines, reduced.
+SPARES = [
+    (typed("(lines 6)", "(mct (0 1 2 3) 4)"), 20),
+    (typed("(lines 7)", "(mct (0 1 2 3) 4)"), 20),
+    (typed("(lines 7)", "(mct (0 1 2 3 4) 5)"), 42),
+    (FIVE, 32),
+    (typed("(lines 9)", "(mct (0 1 2 3 4) 5)"), 32),
+    (typed("(lines 7)", "(mct (1 2 3 4 5) 0)"), 42),
+    (typed("(lines 8)", "(mct (0 1 2 3 4 5) 6)"), 52),
+    (typed("(lines 9)", "(mct (0 1 2 3 4 5) 6)"), 44),
+    (typed("(lines 11)", "(mct (0 1 2 3 4 5 6 7 8) 9)"), 100),
+    (typed("(lines 12)", "(mct (0 1 2 3 4 5 6 7 8) 9)"), 98),
+    (typed("(lines 13)", "(mct (0 1 2 3 4 5 6 7 8) 9)"), 80),
+    (typed("(lines 12)", "(mct (0 1 2 3 4 5 6 7 8 9) 10)"), 130),
+    (typed("(lines 13)", "(mct (0 1 2 3 4 5 6 7 8 9) 10)"), 132),
+    (typed("(lines 17)", WIDE), 250),
+    (typed("(lines 18)", WIDE), 252),
+    (typed("(lines 32)", WIDE), 252),
+    (typed("(lines 17)", WIDE_3), 256),
+]
+
 # Cascades and their quotes.
 QUOTES = [
+    *SPARES,
     (TOFFOLI, 5),
     (typed("(lines 3)", "(mct (0 1) 2)", "(mct (0 1) 2)"), 9),
     (typed("(lines 5)", "(mct (0 1 2) 3)"), 14),

@@ -67,7 +67,7 @@ static void make_texts(void) {
     int i;
 
     /* So many gates are quoted by tests/peer. */
-    t = cascade(0, "eleven gates of 15 controls", 3476);
+    t = cascade(0, "eleven gates of 15 controls", 2750);
     add(t, "(lines 17)\n");
     for (i = 0; i < 11; i++)
         add(t, wide);
@@ -137,7 +137,7 @@ static void make_texts(void) {
         "(lines 3)\n(mct (-0 -1) 2)\n");
     /* 4,092 gates and four NOTs, just as many as may be. So many of them are quoted
        by tests/peer. */
-    t = cascade(27, "eleven gates of 15 controls, two negated", 3480);
+    t = cascade(27, "eleven gates of 15 controls, two negated", 2754);
     add(t, "(lines 17)\n(mct (-0 1 2 3 4 5 6 7 8 9 10 11 12 13 -14) 15)\n");
     for (i = 1; i < 11; i++)
         add(t, wide);

@@ -7,6 +7,11 @@
    third of the cascades have no negated controls, in a third any of them are, and in
    a third all.
 
+   Then cascades of one or two gates of five to nine controls, with one to four
+   lines that each gate leaves unnamed, on up to 13 lines: these have spares of every
+   kind. On more than eight lines they are run from some starts only, a third of
+   them with all controls of the first gate met, a third with all but one.
+
    A controlled V is a Hadamard gate on the target, a conditional phase kick of
    pi/2 (V+: -pi/2) and a Hadamard gate again: with the phase kick diag(1, i)
    between them the two Hadamard gates give half of [[1+i, 1-i], [1-i, 1+i]].
@@ -22,8 +27,11 @@
 #include <stdlib.h>
 #include <string.h>
 
-enum { USUAL_LINES = 6, MOST_LINES = 8, MOST_GATES = 4096, MOST_MCTS = 16 };
-enum { CASCADES = 1200, CIRCUITS = 400 };
+enum { USUAL_LINES = 6, ALL_STARTS_LINES = 8, MOST_LINES = 13, MOST_GATES = 4096, MOST_MCTS = 16 };
+enum { CASCADES = 1200, CIRCUITS = 400, SOME_STARTS = 24 };
+/* Controls and unnamed lines of the wide gates, and how many cascades they make: one
+   for each way of signs. */
+enum { FEWEST_CONTROLS = 5, MOST_CONTROLS = 9, MOST_UNNAMED = 4, WIDE_CASCADES = 57 };
 /* Cascades with a negated control, and cascades with controls of which none is. */
 enum { FEWEST_NEGATED = 500, FEWEST_PLAIN = 280 };
 static const double TOLERANCE = 1e-3;
@@ -75,6 +83,22 @@ static void random_cascade(struct cascade *cascade, enum signs signs)
             mct->controls = (unsigned)below(1 << lines) & ~(1u << mct->target);
             k = __builtin_popcount(mct->controls);
         } while ((k >= 3 && lines == k + 1) || (wide && k < 5));
+        unsigned chosen = signs == ANY ? (unsigned)below(1 << lines) : signs == ALL ? ~0u : 0;
+        mct->negated = mct->controls & chosen;
+    }
+}
+
+/* One or two gates of k controls, at any places. */
+static void wide_cascade(struct cascade *cascade, int lines, int k, enum signs signs)
+{
+    cascade->lines = lines;
+    cascade->count = 1 + below(2);
+    for (int i = 0; i < cascade->count; i++) {
+        struct mct *mct = &cascade->mcts[i];
+        mct->controls = 0;
+        mct->target = below(lines);
+        while (__builtin_popcount(mct->controls) < k)
+            mct->controls |= 1u << below(lines) & ~(1u << mct->target);
         unsigned chosen = signs == ANY ? (unsigned)below(1 << lines) : signs == ALL ? ~0u : 0;
         mct->negated = mct->controls & chosen;
     }
@@ -224,7 +248,7 @@ static unsigned run_cascade(const struct cascade *cascade, unsigned pattern)
 
 static struct cascade cascade;
 static struct circuit circuit, answer;
-static long passed, failed, starts, negated, plain;
+static long passed, failed, starts, flips, negated, plain;
 
 static void count(int good, const char *what, const char *file)
 {
@@ -254,32 +278,54 @@ static void count_signs(void)
     plain += any_control != 0 && any_negated == 0;
 }
 
-/* One case: a text is written to the file and run, then all starts. */
-static void one_case(int is_cascade, enum signs signs, const char *directory, const char *file)
+/* The start of this number: all of them in turn where there are few lines. */
+static unsigned chosen_start(int lines, unsigned which)
 {
-    complex double got[1 << MOST_LINES], expected[1 << MOST_LINES];
+    if (lines <= ALL_STARTS_LINES)
+        return which;
+    const struct mct *mct = &cascade.mcts[0];
+    unsigned start = (unsigned)below(1 << lines);
+    if (which % 3 < 2)
+        start = (start & ~mct->controls) | (mct->controls & ~mct->negated);
+    if (which % 3 == 1) {
+        int line;
+        do
+            line = below(lines);
+        while (!(mct->controls >> line & 1));
+        start ^= 1u << line;
+    }
+    return start;
+}
+
+/* One case: the text of the cascade, or of the circuit, is written to the file and
+   run, then the starts. */
+static void one_case(int is_cascade, const char *directory, const char *file)
+{
+    static complex double got[1 << MOST_LINES], expected[1 << MOST_LINES];
     FILE *text = fopen(file, "w");
     if (!text) {
         perror(file);
         exit(1);
     }
     if (is_cascade) {
-        random_cascade(&cascade, signs);
         count_signs();
         write_cascade(text, &cascade);
     } else {
-        random_circuit(&circuit);
         write_circuit(text, &circuit);
     }
     fclose(text);
     const char *program = is_cascade ? "map" : "reduce";
     int lines = is_cascade ? cascade.lines : circuit.lines;
     int good = run(directory, program, file, &answer) && answer.lines == lines;
-    for (unsigned start = 0; good && start < 1u << lines; start++, starts++) {
+    unsigned count_of_starts = lines <= ALL_STARTS_LINES ? 1u << lines : SOME_STARTS;
+    for (unsigned which = 0; good && which < count_of_starts; which++, starts++) {
+        unsigned start = chosen_start(lines, which);
         if (is_cascade) {
+            unsigned end = run_cascade(&cascade, start);
+            flips += end != start;
             for (int pattern = 0; pattern < 1 << lines; pattern++)
                 expected[pattern] = 0;
-            expected[run_cascade(&cascade, start)] = 1;
+            expected[end] = 1;
         } else {
             simulate(&circuit, start, expected);
         }
@@ -287,6 +333,21 @@ static void one_case(int is_cascade, enum signs signs, const char *directory, co
         good = close_to(got, expected, lines);
     }
     count(good, program, file);
+}
+
+/* Gates of so many controls with so many unnamed lines, each way of signs. */
+static int wide_cases(const char *directory, const char *file)
+{
+    int cases = 0;
+    for (int k = FEWEST_CONTROLS; k <= MOST_CONTROLS; k++)
+        for (int unnamed = 1; unnamed <= MOST_UNNAMED; unnamed++) {
+            int lines = k + 1 + unnamed;
+            for (int signs = NONE; lines <= MOST_LINES && signs <= ALL; signs++, cases++) {
+                wide_cascade(&cascade, lines, k, (enum signs)signs);
+                one_case(1, directory, file);
+            }
+        }
+    return cases;
 }
 
 int main(int argc, char **argv)
@@ -297,17 +358,29 @@ int main(int argc, char **argv)
     }
     char file[4096];
     snprintf(file, sizeof file, "%s/simulator.text", argv[2]);
-    for (int i = 0; i < CASCADES; i++)
-        one_case(1, (enum signs)(i % 3), argv[1], file);
+    for (int i = 0; i < CASCADES; i++) {
+        random_cascade(&cascade, (enum signs)(i % 3));
+        one_case(1, argv[1], file);
+    }
     printf("simulator: map: %d cascades, %ld with negated controls, %ld with others alone, %ld starts\n", CASCADES,
            negated, plain, starts);
     if (negated < FEWEST_NEGATED || plain < FEWEST_PLAIN) {
         printf("simulator: FAILED: too few cascades of one kind\n");
         failed++;
     }
+    starts = flips = 0;
+    int wide = wide_cases(argv[1], file);
+    printf("simulator: map: %d cascades of gates of %d to %d controls, %ld starts, %ld with another end\n", wide,
+           FEWEST_CONTROLS, MOST_CONTROLS, starts, flips);
+    if (wide != WIDE_CASCADES || flips < 7 * WIDE_CASCADES) {
+        printf("simulator: FAILED: too few cascades of wide gates\n");
+        failed++;
+    }
     starts = 0;
-    for (int i = 0; i < CIRCUITS; i++)
-        one_case(0, NONE, argv[1], file);
+    for (int i = 0; i < CIRCUITS; i++) {
+        random_circuit(&circuit);
+        one_case(0, argv[1], file);
+    }
     printf("simulator: reduce: %d circuits, %ld starts\n", CIRCUITS, starts);
     printf("%ld passed, %ld failed\n", passed, failed);
     return passed > 0 && failed == 0 ? 0 : 1;

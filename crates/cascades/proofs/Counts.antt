@@ -7,7 +7,7 @@ use lib.Dec.{eqb, eqb→eq}
 use lib.ListN.{length, getD, length-append, length-take, length-drop}
 use Rattle.gates.specs.declared.Gate.{Gate}
 use Rattle.gates.proofs.Inverses.{length-inverse}
-use Rattle.cascades.specs.Expansion.{_⨾_, joined, c0, c1, Expands, no-control, one-control, two-controls, more-controls, spare, expand, expansion, counts}
+use Rattle.cascades.specs.Expansion.{_⨾_, joined, c0, c1, Expands, no-control, one-control, two-controls, more-controls, mct-spares, first-spare, m0-spares, m1-spares, expand, expand-with, expansion, counts}
 use Rattle.cascades.proofs.Every.{at}
 
 -- ---- lengths
@@ -25,7 +25,7 @@ length-c1 cs = length-drop (length cs / 2) cs
 -- ---- how many gates, by the number of controls
 
 -- the first argument bounds the recursion: more than the number of controls
-unfoldable size : ℕ → ℕ → ℕ
+unfoldable pub size : ℕ → ℕ → ℕ
 size zero k = 0
 size (suc f) zero = 1
 size (suc f) (suc zero) = 1
@@ -41,7 +41,7 @@ size-more f (suc (suc zero)) h = absurd (omega arith)
 size-more f (suc (suc (suc k))) h = let e : suc (suc (suc k)) ≡ 3 + k = omega arith in rw e
 
 -- two halves of this size make a gate of this size
-size-joined : (f s t : ℕ) (cs : List ℕ) (m0 m1 : List Gate) → 3 ≤ length cs → length m0 ≡ size f (length (c0 cs)) → length m1 ≡ size f (length (c1 cs)) → length (joined s t m0 m1) ≡ size (suc f) (length cs)
+pub size-joined : (f s t : ℕ) (cs : List ℕ) (m0 m1 : List Gate) → 3 ≤ length cs → length m0 ≡ size f (length (c0 cs)) → length m1 ≡ size f (length (c1 cs)) → length (joined s t m0 m1) ≡ size (suc f) (length cs)
 size-joined f s t cs m0 m1 h e0 e1 = length-joined s t m0 m1 ∙ rw (e0, e1, length-c0 cs, length-c1 cs, size-more f (length cs) h)
 
 expands-size : (f n : ℕ) {cs : List ℕ} {t : ℕ} {c : List Gate} → length cs < f → Expands n cs t c → length c ≡ size f (length cs)
@@ -53,17 +53,21 @@ expands-size (suc f) n h (two-controls a b t) = unfold _⨾_ in refl
 expands-size (suc f) n h (more-controls {cs} {t} {m0} {m1} s k sn out e0 e1) =
     size-joined f s t cs m0 m1 k (expands-size f n (omega (arith, length-c0 cs)) e0) (expands-size f n (omega (arith, length-c1 cs)) e1)
 
--- the lowest lines, also where there is none to spare
-expand-size : (f n : ℕ) (cs : List ℕ) (t : ℕ) → length (expand f n cs t) ≡ size f (length cs)
+-- the published order, also where there is none to spare
+expand-size : (f : ℕ) (sp cs : List ℕ) (t : ℕ) → length (expand f sp cs t) ≡ size f (length cs)
 unfolding expand size
-expand-size zero n cs t = refl
-expand-size (suc f) n [] t = refl
-expand-size (suc f) n (a ∷ []) t = refl
-expand-size (suc f) n (a ∷ b ∷ []) t = unfold _⨾_ in refl
-expand-size (suc f) n (a ∷ b ∷ c ∷ cs) t =
+expand-size zero sp cs t = refl
+expand-size (suc f) sp [] t = refl
+expand-size (suc f) sp (a ∷ []) t = refl
+expand-size (suc f) sp (a ∷ b ∷ []) t = unfold _⨾_ in refl
+expand-size (suc f) sp (a ∷ b ∷ c ∷ cs) t =
     let l : List ℕ = a ∷ b ∷ c ∷ cs in
-    let s : ℕ = spare n 0 (t ∷ l) in
-    size-joined f s t l (expand f n (c0 l) s) (expand f n (c1 l) s) (omega arith) (expand-size f n (c0 l) s) (expand-size f n (c1 l) s)
+    let s : ℕ = first-spare sp in
+    size-joined f s t l (expand f (m0-spares sp l t) (c0 l) s) (expand f (m1-spares sp l) (c1 l) s) (omega arith) (expand-size f (m0-spares sp l t) (c0 l) s) (expand-size f (m1-spares sp l) (c1 l) s)
+
+pub expand-with-size : (sp cs : List ℕ) (t : ℕ) → length (expand-with sp cs t) ≡ size (suc (length cs)) (length cs)
+unfolding expand-with
+expand-with-size sp cs t = expand-size (suc (length cs)) sp cs t
 
 -- ---- the table
 
@@ -77,4 +81,4 @@ expands-count n {cs} e h = expands-size (suc (length cs)) n (omega arith) e ∙ 
 
 pub expansion-count : (n : ℕ) (cs : List ℕ) (t : ℕ) → length cs ≤ 15 → length (expansion n cs t) ≡ getD counts (length cs) 0
 unfolding expansion
-expansion-count n cs t h = expand-size (suc (length cs)) n cs t ∙ counted (length cs) h
+expansion-count n cs t h = expand-with-size (mct-spares n cs t) cs t ∙ counted (length cs) h

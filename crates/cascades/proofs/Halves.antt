@@ -5,7 +5,7 @@ use mathlib.Core.Bool.{true, false, false≢true}
 use mathlib.Core.List.{List, [], _∷_, _++_}
 use Prim.Native.Nat.{ℕ, _/_, _<_}
 use lib.Dec.{eqb}
-use borrow.Author.Tests.{eq-eqb, ne-eqb, eqb-false}
+use borrow.Author.Tests.{eq-eqb, eqb-false}
 use lib.ListN.{length, take-append-drop}
 use Rattle.gates.proofs.Every.{every-left, every-right, every-follows}
 use Rattle.meaning.specs.Pattern.{has, distinct}
@@ -18,10 +18,6 @@ use Rattle.cascades.specs.Cascade.{Controlled, Below, OnLines, AllOnLine
 pub out-cons : (j c : ℕ) (cs : List ℕ) → has j (c ∷ cs) ≡ false → (c ≢ j) × (has j cs ≡ false)
 unfolding has
 out-cons j c cs e = let u = neither (eqb j c) (has j cs) e in ((λ r. eqb-false j c (u .0) (sym r)), u .1)
-
-pub cons-out : (j c : ℕ) (cs : List ℕ) → c ≢ j → has j cs ≡ false → has j (c ∷ cs) ≡ false
-unfolding has
-cons-out j c cs n e = rw (ne-eqb j c (λ r. n (sym r)), e)
 
 pub out-append : (j : ℕ) (c d l : List ℕ) → c ++ d ≡ l → has j l ≡ false → (has j c ≡ false) × (has j d ≡ false)
 out-append j c d l e h = neither (has j c) (has j d) (sym (has-append j c d) ∙ ap (has j) e ∙ h)
@@ -54,19 +50,6 @@ module _ (n : ℕ) where
       let b : Below n (c0 cs ++ c1 cs) = rw e (w .below) in (
         record { apart = apart .0; other = so .0; line = sn; below = below-left (c0 cs) (c1 cs) b },
         record { apart = apart .1; other = so .1; line = sn; below = below-right (c0 cs) (c1 cs) b },
-      )
-
-  -- and each has a line to spare, the target of the larger gate
-  pub halves-expandable : (s : ℕ) {cs : List ℕ} {t : ℕ} → Expandable n cs t → s < n → has s (t ∷ cs) ≡ false → Expandable n (c0 cs) s × Expandable n (c1 cs) s
-  halves-expandable s {cs} {t} w sn out =
-      let e = halves-join cs in
-      let named = out-cons s t cs out in
-      let so = out-append s (c0 cs) (c1 cs) cs e (named .1) in
-      let to = out-append t (c0 cs) (c1 cs) cs e (w .other) in
-      let apart = distinct-append (c0 cs) (c1 cs) (ap distinct e ∙ w .apart) in
-      let st : s ≢ t = λ r. named .0 (sym r) in (
-        record { apart = apart .0; other = so .0; line = sn; unnamed-line = λ k. (t, w .line, cons-out t s (c0 cs) st (to .0)) },
-        record { apart = apart .1; other = so .1; line = sn; unnamed-line = λ k. (t, w .line, cons-out t s (c1 cs) st (to .1)) },
       )
 
   -- ---- gates that can be expanded are on the n lines

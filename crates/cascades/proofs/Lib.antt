@@ -1,7 +1,10 @@
 -- The laws and theorems of this crate, in reading order.
+pub mod Times
+pub mod SpareLists
 pub mod Halves
 pub mod Spare
-pub mod Lowest
+pub mod Spared
+pub mod Published
 pub mod Valid
 pub mod Acting
 pub mod Expanding
@@ -10,6 +13,9 @@ pub mod Counts
 pub mod SignLines
 pub mod SignFlips
 pub mod Signs
+pub mod Lowest
+pub mod Renaming
+pub mod Placement
 pub mod Bases
 pub mod Realises
 pub mod Signless

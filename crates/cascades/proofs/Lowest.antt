@@ -1,102 +1,114 @@
--- The rule of the lowest line: expansions on closed gates, by computation; and that the rule is one choice of spare lines, for every gate that
--- has a line to spare. Assumes nothing.
-use mathlib.Core.Path.{_≡_, refl}
+-- The rule of the lowest line, by which spare lines were chosen before they had the published order (the definitions of then, word for word); and
+-- what is as it was: the number of gates, and with at most four controls the expansion. Assumes nothing.
+use mathlib.Core.Path.{_≡_, refl, sym, ap, _∙_}
 use mathlib.Core.Logic.{_≢_}
-use mathlib.Core.Bool.{Bool, true, false, cond}
+use mathlib.Core.Bool.{Bool, cond, true, false}
 use mathlib.Core.List.{List, [], _∷_}
-use Prim.Native.Nat.{ℕ, zero, suc, _+_, _/_, _≤_, _<_}
+use Prim.Native.Nat.{ℕ, zero, suc, _≤_}
 use native.Mathlib.Omega.{arith}
-use native.Mathlib.Decide.{ℕ-discrete}
-use lib.ListN.{length, length-take, length-drop}
+use lib.ListN.{length, getD}
 use Rattle.gates.specs.declared.Gate.{Gate}
-use Rattle.gates.specs.declared.Gate.the-variants.{Not, Powered}
+use Rattle.gates.specs.declared.Gate.the-variants.{Not}
+use Rattle.gates.specs.Circuit.{slot}
 use Rattle.gates.specs.Inverse.{inverse, inverted}
 use Rattle.meaning.specs.Pattern.{has}
-use Rattle.cascades.specs.Expansion.{_⨾_, joined, c0, c1, Expands, no-control, one-control, two-controls, more-controls, spare, expand, expansion, Expandable}
-use Rattle.cascades.specs.Control.{positive, negative, control-lines, negated-lines}
-use Rattle.cascades.specs.Signs.{nots, between-nots, signed, expansion±}
-use Rattle.cascades.specs.Cascade.{Controlled, expand-all, ExpandsAll, no-gate, next-gate, AllExpandable}
-use Rattle.cascades.proofs.Halves.{halves-expandable}
+use Rattle.cascades.specs.Expansion as now
+use Rattle.cascades.specs.Expansion.{_⨾_, cn, toffoli, joined, c0, c1, lines-outside, mct-spares, first-spare, expand-with, Expandable}
+use Rattle.cascades.specs.Control.{Control, control-lines, negated-lines}
+use Rattle.cascades.specs.Signs as now-signed
+use Rattle.cascades.specs.Signs.{between-nots}
+use Rattle.cascades.specs.Cascade.{Below}
+use Rattle.cascades.proofs.SpareLists.{five}
+use Rattle.cascades.proofs.Spared.{mct-spared}
+use Rattle.cascades.proofs.Counts.{size, size-joined, expand-with-size}
+use Rattle.cascades.proofs.Signs.{length-between}
 
--- ---- closed gates
+-- ---- the definitions of then
 
--- of 6 lines `(mct (0 1 2) 3)` names neither 4 nor 5: its spare line is 4
-lower-of-two : spare 6 0 (3 ∷ 0 ∷ 1 ∷ 2 ∷ []) ≡ 4
-unfolding spare has
-lower-of-two = refl
+-- the lowest line from i on, of m lines, that is not in the list; i + m if they all are
+unfoldable pub spare : ℕ → ℕ → List ℕ → ℕ
+spare zero i l = i
+spare (suc m) i l = cond (has i l) (spare m (suc i) l) i
 
--- `(mct (0 1) 2)`: v 1 2; cn 0 1; vp 1 2; cn 0 1; v 0 2
-two-controls-in-order : expansion 3 (0 ∷ 1 ∷ []) 2 ≡ Powered 1 1 2 ∷ Powered 2 0 1 ∷ Powered 3 1 2 ∷ Powered 2 0 1 ∷ Powered 1 0 2 ∷ []
-unfolding expansion expand _⨾_
-two-controls-in-order = refl
+-- the expansion with "the lowest one that this gate names neither as control nor as target" for each spare line; the first argument bounds the
+-- recursion: more than the number of controls
+unfoldable pub expand : ℕ → ℕ → List ℕ → ℕ → List Gate
+expand zero n cs t = []
+expand (suc f) n [] t = Not t ∷ []
+expand (suc f) n (a ∷ []) t = cn a t
+expand (suc f) n (a ∷ b ∷ []) t = toffoli a b t
+expand (suc f) n (a ∷ b ∷ c ∷ cs) t =
+    let l = a ∷ b ∷ c ∷ cs in
+    let s = spare n 0 (t ∷ l) in
+    joined s t (expand f n (c0 l) s) (expand f n (c1 l) s)
 
--- `(mct (0 1 2) 3)` on 5 lines, with the spare line 4
-abbrev pub three-controls : List Gate
-three-controls = expansion 5 (0 ∷ 1 ∷ 2 ∷ []) 3
+unfoldable pub expansion : ℕ → List ℕ → ℕ → List Gate
+expansion n cs t = expand (suc (length cs)) n cs t
 
--- v 4 3; M0, which is cn 0 4; vp 4 3; M1, the five gates for 1, 2 and 4; v 4 3; M2; vp 4 3; M3
-three-controls-in-order : three-controls ≡
-    Powered 1 4 3 ∷ Powered 2 0 4 ∷ Powered 3 4 3 ∷ Powered 1 2 4 ∷ Powered 2 1 2 ∷ Powered 3 2 4 ∷ Powered 2 1 2 ∷ Powered 1 1 4
-    ∷ Powered 1 4 3 ∷ Powered 2 0 4 ∷ Powered 3 4 3 ∷ Powered 3 1 4 ∷ Powered 2 1 2 ∷ Powered 1 2 4 ∷ Powered 2 1 2 ∷ Powered 3 2 4 ∷ []
-unfolding expansion expand spare has _⨾_ joined inverse inverted
-three-controls-in-order = refl
+unfoldable pub expansion± : ℕ → List Control → ℕ → List Gate
+expansion± n cs t = between-nots (negated-lines cs) (expansion n (control-lines cs) t)
 
--- two gates in text order: `(mct (0) 1)` and `(mct () 0)`
-two-gates-in-order : expand-all 2 (record { controls = positive 0 ∷ []; target = 1 } ∷ record { controls = []; target = 0 } ∷ []) ≡ Powered 2 0 1 ∷ Not 0 ∷ []
-unfolding expand-all expansion± between-nots nots control-lines negated-lines expansion expand _⨾_
-two-gates-in-order = refl
+-- ---- "Lists can differ from five controls up"
 
--- `(mct (-0 1 -2) 3)` on 5 lines: not 0; not 2; the sixteen gates without signs; not 0; not 2
-signed-in-order : expansion± 5 (negative 0 ∷ positive 1 ∷ negative 2 ∷ []) 3 ≡ Not 0 ∷ Not 2 ∷ three-controls ⨾ (Not 0 ∷ Not 2 ∷ [])
-unfolding expansion± between-nots nots control-lines negated-lines _⨾_
-signed-in-order = refl
+-- `(mct (0 1 2 3 4) 5)` on 8 lines borrowed 6, and its M1 the line 0, where it is 7 now
+five-before : expansion 8 five 5 ≡ joined 6 5 (toffoli 0 1 6) (joined 0 6 (cn 2 0) (toffoli 3 4 0))
+unfolding expansion expand spare has
+five-before = refl
 
--- ---- the lowest line
+five-differs : now.expansion 8 five 5 ≢ expansion 8 five 5
+unfolding now.expansion expand-with now.expand mct-spares lines-outside expansion expand spare has _⨾_ joined inverse inverted slot
+five-differs e = let q : _≡_ {A = ℕ} 8 1 = ap (λ c. slot (getD c 7 (Not 0))) e in omega arith
 
--- every lower line is named: `spare` is "the lowest one that this gate names neither as control nor as target"
-pub spare-lowest : (m i : ℕ) (l : List ℕ) (j : ℕ) → i ≤ j → j < spare m i l → has j l ≡ true
-unfolding spare
-spare-lowest zero i l j h k = absurd (omega arith)
-spare-lowest (suc m) i l j h k = go (has i l) refl k (ℕ-discrete i j) (spare-lowest m (suc i) l j)
+-- ---- as many gates as before
+
+expand-size : (f n : ℕ) (cs : List ℕ) (t : ℕ) → length (expand f n cs t) ≡ size f (length cs)
+unfolding expand size
+expand-size zero n cs t = refl
+expand-size (suc f) n [] t = refl
+expand-size (suc f) n (a ∷ []) t = refl
+expand-size (suc f) n (a ∷ b ∷ []) t = unfold _⨾_ in refl
+expand-size (suc f) n (a ∷ b ∷ c ∷ cs) t =
+    let l : List ℕ = a ∷ b ∷ c ∷ cs in
+    let s : ℕ = spare n 0 (t ∷ l) in
+    size-joined f s t l (expand f n (c0 l) s) (expand f n (c1 l) s) (omega arith) (expand-size f n (c0 l) s) (expand-size f n (c1 l) s)
+
+length-before : (n : ℕ) (cs : List ℕ) (t : ℕ) → length (now.expansion n cs t) ≡ length (expansion n cs t)
+unfolding now.expansion expansion
+length-before n cs t = expand-with-size (mct-spares n cs t) cs t ∙ sym (expand-size (suc (length cs)) n cs t)
+
+-- also with signs
+pub count-before : (n : ℕ) (cs : List Control) (t : ℕ) → length (now-signed.expansion± n cs t) ≡ length (expansion± n cs t)
+unfolding now-signed.expansion± expansion±
+count-before n cs t = length-between (negated-lines cs) _ ∙ rw (length-before n (control-lines cs) t) (sym (length-between (negated-lines cs) _))
+
+-- ---- at most four controls
+
+-- the first of the unnamed lines, rising, is the lowest
+first-is-lowest : (m i : ℕ) (l : List ℕ) → 1 ≤ length (lines-outside m i l) → first-spare (lines-outside m i l) ≡ spare m i l
+unfolding lines-outside spare
+first-is-lowest zero i l h = absurd (omega arith)
+first-is-lowest (suc m) i l h = go (has i l) h (first-is-lowest m (suc i) l)
   where
-    go : (b : Bool) → has i l ≡ b → j < cond b (spare m (suc i) l) i → Dec (i ≡ j) → (suc i ≤ j → j < spare m (suc i) l → has j l ≡ true) → has j l ≡ true
-    go true e k′ (yes q) rest = rw (← q) e
-    go true e k′ (no q) rest = rest (omega arith) k′
-    go false e k′ d rest = absurd (omega arith)
-
--- it is named neither, and is one of the lines, if some line is
-pub spare-is : (m i : ℕ) (l : List ℕ) (j : ℕ) → i ≤ j → j < i + m → has j l ≡ false → (has (spare m i l) l ≡ false) × (spare m i l < i + m)
-unfolding spare
-spare-is zero i l j h k e = absurd (omega arith)
-spare-is (suc m) i l j h k e = go (has i l) refl (λ r. spare-is m (suc i) l j r (omega arith) e)
-  where
-    go : (b : Bool) → has i l ≡ b → (suc i ≤ j → (has (spare m (suc i) l) l ≡ false) × (spare m (suc i) l < suc i + m)) → (has (cond b (spare m (suc i) l) i) l ≡ false) × (cond b (spare m (suc i) l) i < i + suc m)
-    go true q rest = let n : i ≢ j = λ r. (let z : _≡_ {A = ℕ} 0 1 = cc in omega arith) in let u = rest (omega arith) in (u .0, omega arith)
-    go false q rest = (q, omega arith)
+    go : (b : Bool) → 1 ≤ length (cond b (lines-outside m (suc i) l) (i ∷ lines-outside m (suc i) l)) → (1 ≤ length (lines-outside m (suc i) l) → first-spare (lines-outside m (suc i) l) ≡ spare m (suc i) l)
+        → first-spare (cond b (lines-outside m (suc i) l) (i ∷ lines-outside m (suc i) l)) ≡ cond b (spare m (suc i) l) i
+    go true k rest = rest k
+    go false k rest = refl
 
 module _ (n : ℕ) where
-  expand-expands : (f : ℕ) (cs : List ℕ) (t : ℕ) → length cs < f → Expandable n cs t → Expands n cs t (expand f n cs t)
-  unfolding expand
-  expand-expands zero cs t h w = absurd (omega arith)
-  expand-expands (suc f) [] t h w = no-control t
-  expand-expands (suc f) (a ∷ []) t h w = one-control a t
-  expand-expands (suc f) (a ∷ b ∷ []) t h w = two-controls a b t
-  expand-expands (suc f) (a ∷ b ∷ c ∷ cs) t h w =
-      let l : List ℕ = a ∷ b ∷ c ∷ cs in
-      let s : ℕ = spare n 0 (t ∷ l) in
-      let j = w .unnamed-line (omega arith) in
-      let s-is = spare-is n 0 (t ∷ l) (j .0) (omega arith) (omega (arith, j .1)) (j .2) in
-      let sn : s < n = omega (arith, s-is .1) in
-      let halves = halves-expandable n s w sn (s-is .0) in
-      more-controls {cs = l} s (omega arith) sn (s-is .0)
-      (expand-expands f (c0 l) s (omega (arith, length-take (length l / 2) l)) (halves .0))
-      (expand-expands f (c1 l) s (omega (arith, length-drop (length l / 2) l)) (halves .1))
+  first-before : {cs : List ℕ} {t : ℕ} → 3 ≤ length cs → Expandable n cs t → Below n cs → first-spare (mct-spares n cs t) ≡ spare n 0 (t ∷ cs)
+  unfolding mct-spares
+  first-before {cs} {t} k w b = first-is-lowest n 0 (t ∷ cs) (mct-spared n w b .enough k)
 
-  pub expansion-expands : (cs : List ℕ) (t : ℕ) → Expandable n cs t → Expands n cs t (expansion n cs t)
-  unfolding expansion
-  expansion-expands cs t w = expand-expands (suc (length cs)) cs t (omega arith) w
+  -- "With at most four controls the expansion is the one of before", whatever the lines
+  pub few-controls : (cs : List ℕ) (t : ℕ) → Expandable n cs t → Below n cs → length cs ≤ 4 → now.expansion n cs t ≡ expansion n cs t
+  unfolding now.expansion expand-with now.expand expansion expand
+  few-controls [] t w b h = refl
+  few-controls (a ∷ []) t w b h = refl
+  few-controls (a ∷ b ∷ []) t w b′ h = refl
+  few-controls (a ∷ b ∷ c ∷ []) t w b′ h = rw (first-before (omega arith) w b′)
+  few-controls (a ∷ b ∷ c ∷ d ∷ []) t w b′ h = rw (first-before (omega arith) w b′)
+  few-controls (a ∷ b ∷ c ∷ d ∷ e ∷ cs) t w b′ h = absurd (omega arith)
 
-  pub expand-all-expands : (gs : List Controlled) → AllExpandable n gs → ExpandsAll n gs (expand-all n gs)
-  unfolding expand-all AllExpandable expansion±
-  expand-all-expands [] w = no-gate
-  expand-all-expands (g ∷ gs) w = next-gate (signed (expansion-expands (control-lines (g .controls)) (g .target) (w .0 .0))) (expand-all-expands gs (w .1))
+  pub few-controls± : (cs : List Control) (t : ℕ) → Expandable n (control-lines cs) t → Below n (control-lines cs) → length (control-lines cs) ≤ 4 → now-signed.expansion± n cs t ≡ expansion± n cs t
+  unfolding now-signed.expansion± expansion±
+  few-controls± cs t w b h = rw (few-controls (control-lines cs) t w b h)

@@ -16,7 +16,7 @@ use Rattle.meaning.proofs.Links.{same-matrix-sym, reduced-matrix}
 use Rattle.meaning.proofs.Runs.{scaled}
 use Rattle.cascades.specs.Cascade.{Controlled, after, expand-all, ExpandsAll, agree, basis, AllOnLines, AllExpandable, targets, Realises}
 use Rattle.cascades.proofs.Halves.{all-on-lines}
-use Rattle.cascades.proofs.Lowest.{expand-all-expands}
+use Rattle.cascades.proofs.Published.{expand-all-expands}
 use Rattle.cascades.proofs.Bases.{after-restored, matrix-basis}
 
 -- ---- the amplitudes of the start from a pattern
@@ -64,7 +64,7 @@ module _ (n : ℕ) {gs : List Controlled} where
   pub reduced-expansions-realise : {c r : List Gate} → AllOnLines n gs → ExpandsAll n gs c → Reduced n c r → Realises n gs r
   reduced-expansions-realise {c} {r} w es k = matrix-realises w es (same-matrix-sym n c r (reduced-matrix n k))
 
--- ---- the lowest spare lines
+-- ---- the published order of spare lines
 
 -- demand 2: for every cascade whose gates can be expanded, as rules 4 to 8 ask, the reduced list of its expansion realises it
 pub reduced-realises : (n : ℕ) (gs : List Controlled) {r : List Gate} → AllExpandable n gs → Reduced n (expand-all n gs) r → Realises n gs r

@@ -1,5 +1,6 @@
--- Cascades as they were before controls had signs (the definitions of then, word for word), and that nothing changed for them: a cascade without
--- a sign has the same pattern and the same expansion, and is realised by the same circuits. Assumes nothing.
+-- Cascades as they were before controls had signs (the definitions of then, with the spare lines of now; `Lowest.antt` has those of then), and that
+-- nothing changed for them: a cascade without a sign has the same pattern and the same expansion, and is realised by the same circuits.
+-- Assumes nothing.
 use mathlib.Core.Path.{_≡_, refl, _∙_, ap, fun-ext}
 use mathlib.Core.Logic.{_↔_, _≢_}
 use mathlib.Core.Bool.{true, false}

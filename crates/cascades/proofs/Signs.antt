@@ -15,7 +15,7 @@ use Rattle.meaning.proofs.Runs.{Acts}
 use Rattle.cascades.specs.Expansion.{_⨾_, Expandable, counts}
 use Rattle.cascades.specs.Cascade.{Controlled, expand-all, Below, OnLines}
 use Rattle.cascades.proofs.Halves.{on-lines}
-use Rattle.cascades.proofs.Lowest.{expansion-expands}
+use Rattle.cascades.proofs.Published.{expansion-expands}
 use Rattle.cascades.proofs.Valid.{expands-valid}
 use Rattle.cascades.proofs.Acting.{acts-then}
 use Rattle.cascades.proofs.Expanding.{expands-runs}
@@ -25,10 +25,10 @@ use Rattle.cascades.specs.Signs.{nots, between-nots, Expands±, signed, 
 use Rattle.cascades.proofs.SignLines.{negated-distinct, negated-below, length-control-lines}
 use Rattle.cascades.proofs.SignFlips.{flips, nots-act, mct-between-flips}
 
--- the lowest spare lines are one choice
-pub expansion±-expands : (n : ℕ) (cs : List Control) (t : ℕ) → Expandable n (control-lines cs) t → Expands± n cs t (expansion± n cs t)
+-- the published order of spare lines is one choice
+pub expansion±-expands : (n : ℕ) (cs : List Control) (t : ℕ) → Expandable n (control-lines cs) t → Below n (control-lines cs) → Expands± n cs t (expansion± n cs t)
 unfolding expansion±
-expansion±-expands n cs t w = signed (expansion-expands n (control-lines cs) t w)
+expansion±-expands n cs t w b = signed (expansion-expands n (control-lines cs) t w b)
 
 -- ---- on the lines
 
@@ -45,7 +45,7 @@ pub expands±-valid : (n : ℕ) {cs : List Control} {t : ℕ} {c : List Gate} �
 expands±-valid n {cs} w (signed {c} e) = between-valid n (negated-lines cs) c (negated-below n cs (w .below)) (expands-valid n w e)
 
 pub expansion±-fits : (n : ℕ) (cs : List Control) (t : ℕ) → Expandable n (control-lines cs) t → Below n (control-lines cs) → AllValid n (expansion± n cs t)
-expansion±-fits n cs t w b = expands±-valid n (on-lines n w b) (expansion±-expands n cs t w)
+expansion±-fits n cs t w b = expands±-valid n (on-lines n w b) (expansion±-expands n cs t w b)
 
 -- ---- how many gates
 

@@ -9,10 +9,9 @@ use Rattle.gates.specs.declared.Gate.the-variants.{Powered}
 use Rattle.gates.specs.Circuit.{valid-not, valid-powered, AllValid}
 use Rattle.gates.proofs.Reach.{all-valid-append}
 use Rattle.gates.proofs.Inverses.{all-valid-inverse}
-use Rattle.cascades.specs.Expansion.{_⨾_, joined, toffoli, Expands, no-control, one-control, two-controls, more-controls, expansion, Expandable}
+use Rattle.cascades.specs.Expansion.{_⨾_, joined, toffoli, Expands, no-control, one-control, two-controls, more-controls}
 use Rattle.cascades.specs.Cascade.{Below, OnLines}
-use Rattle.cascades.proofs.Halves.{out-cons, distinct-two, halves-on-lines, on-lines}
-use Rattle.cascades.proofs.Lowest.{expansion-expands}
+use Rattle.cascades.proofs.Halves.{out-cons, distinct-two, halves-on-lines}
 
 module _ (n : ℕ) where
   -- ---- valid circuits
@@ -53,6 +52,3 @@ module _ (n : ℕ) where
       let h = halves-on-lines n s w sn out in
       let st : s ≢ t = λ r. out-cons s t cs out .0 (sym r) in
       valid-joined s t m0 m1 sn (w .line) st (expands-valid (h .0) e0) (expands-valid (h .1) e1)
-
-  pub expansion-fits : (cs : List ℕ) (t : ℕ) → Expandable n cs t → Below n cs → AllValid n (expansion n cs t)
-  expansion-fits cs t w b = expands-valid (on-lines n w b) (expansion-expands n cs t w)

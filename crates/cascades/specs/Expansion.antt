@@ -1,10 +1,10 @@
--- The expansion of an mct gate into NOT, cn, v and vp gates, with any choice of spare lines and with the lowest ones, and the table of its
--- counts (document 01, "Expansion"). Assumes nothing.
+-- The expansion of an mct gate into NOT, cn, v and vp gates, with any choice of spare lines and with those of the published order, and the table
+-- of its counts (document 01, "Expansion"; document 02, order 5). Assumes nothing.
 use mathlib.Core.Path.{_≡_}
 use mathlib.Core.Bool.{true, false, cond}
 use mathlib.Core.List.{List, [], _∷_, _++_}
 use Prim.Native.Nat.{ℕ, zero, suc, _/_, _≤_, _<_}
-use lib.ListN.{length, take, drop}
+use lib.ListN.{length, take, drop, getD}
 use Rattle.gates.specs.declared.Gate.{Gate}
 use Rattle.gates.specs.declared.Gate.the-variants.{Not, Powered}
 use Rattle.gates.specs.Inverse.{inverse}
@@ -52,28 +52,49 @@ pub data Expands (n : ℕ) : List ℕ → ℕ → List Gate → Type 0 where
   two-controls : (a b t : ℕ) → Expands n (a ∷ b ∷ []) t (toffoli a b t)
   more-controls : {cs : List ℕ} {t : ℕ} {m0 m1 : List Gate} (s : ℕ) → 3 ≤ length cs → s < n → has s (t ∷ cs) ≡ false → Expands n (c0 cs) s m0 → Expands n (c1 cs) s m1 → Expands n cs t (joined s t m0 m1)
 
--- ---- the lowest spare lines
+-- ---- spare lines in the published order (document 02, order 5; "ancillary lines" of document 001, section III.B)
 
--- the lowest line from i on, of m lines, that is not in the list; i + m if they all are
-unfoldable pub spare : ℕ → ℕ → List ℕ → ℕ
-spare zero i l = i
-spare (suc m) i l = cond (has i l) (spare m (suc i) l) i
+-- the lines from i on, of m lines, that are not in the list, rising
+unfoldable pub lines-outside : ℕ → ℕ → List ℕ → List ℕ
+lines-outside zero i l = []
+lines-outside (suc m) i l = cond (has i l) (lines-outside m (suc i) l) (i ∷ lines-outside m (suc i) l)
 
--- the expansion with "the lowest one that this gate names neither as control nor as target" for each spare line; the first argument bounds the
--- recursion: more than the number of controls
-unfoldable pub expand : ℕ → ℕ → List ℕ → ℕ → List Gate
-expand zero n cs t = []
-expand (suc f) n [] t = Not t ∷ []
-expand (suc f) n (a ∷ []) t = cn a t
-expand (suc f) n (a ∷ b ∷ []) t = toffoli a b t
-expand (suc f) n (a ∷ b ∷ c ∷ cs) t =
+-- the spares of an mct gate: "For an mct it is all unnamed lines, rising"
+unfoldable pub mct-spares : ℕ → List ℕ → ℕ → List ℕ
+mct-spares n cs t = lines-outside n 0 (t ∷ cs)
+
+-- each gate "takes the first as s" (0 where it has none)
+abbrev pub first-spare : List ℕ → ℕ
+first-spare sp = getD sp 0 0
+
+-- of the smaller gates of the gate with spares sp, controls cs and target t: "M0 gets t, then the remaining spares, then C1"
+abbrev pub m0-spares : List ℕ → List ℕ → ℕ → List ℕ
+m0-spares sp cs t = t ∷ (drop 1 sp ++ c1 cs)
+
+-- "M1 gets the remaining spares, then C0"
+abbrev pub m1-spares : List ℕ → List ℕ → List ℕ
+m1-spares sp cs = drop 1 sp ++ c0 cs
+
+-- the expansion of the gate with the ordered list sp of spares; the first argument bounds the recursion: more than the number of controls
+unfoldable pub expand : ℕ → List ℕ → List ℕ → ℕ → List Gate
+expand zero sp cs t = []
+expand (suc f) sp [] t = Not t ∷ []
+expand (suc f) sp (a ∷ []) t = cn a t
+expand (suc f) sp (a ∷ b ∷ []) t = toffoli a b t
+expand (suc f) sp (a ∷ b ∷ c ∷ cs) t =
     let l = a ∷ b ∷ c ∷ cs in
-    let s = spare n 0 (t ∷ l) in
-    joined s t (expand f n (c0 l) s) (expand f n (c1 l) s)
+    let s = first-spare sp in
+    joined s t (expand f (m0-spares sp l t) (c0 l) s) (expand f (m1-spares sp l) (c1 l) s)
+
+-- the same, with such a bound
+unfoldable pub expand-with : List ℕ → List ℕ → ℕ → List Gate
+expand-with sp cs t = expand (suc (length cs)) sp cs t
 
 -- the expansion on n lines of the mct gate with controls cs and target t
 unfoldable pub expansion : ℕ → List ℕ → ℕ → List Gate
-expansion n cs t = expand (suc (length cs)) n cs t
+expansion n cs t = expand-with (mct-spares n cs t) cs t
+
+-- ---- which gates can be expanded
 
 -- an mct gate that can be expanded on n lines: no control twice, the target another line, and one of the n lines to spare for three or more
 -- controls

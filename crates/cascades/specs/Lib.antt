@@ -3,3 +3,4 @@ pub mod Expansion
 pub mod Control
 pub mod Signs
 pub mod Cascade
+pub mod Spares

@@ -19,6 +19,6 @@ between-nots l c = nots l ⨾ c ⨾ nots l
 pub data Expands± (n : ℕ) (cs : List Control) (t : ℕ) : List Gate → Type 0 where
   signed : {c : List Gate} → Expands n (control-lines cs) t c → Expands± n cs t (between-nots (negated-lines cs) c)
 
--- the expansion with the lowest spare lines, which no sign changes
+-- the expansion with spare lines in the published order, which no sign changes
 unfoldable pub expansion± : ℕ → List Control → ℕ → List Gate
 expansion± n cs t = between-nots (negated-lines cs) (expansion n (control-lines cs) t)

@@ -3,5 +3,5 @@ pub mod Handed
 pub mod One
 pub mod Demands
 pub mod Order
-pub mod Signless
+pub mod JudgedBy
 pub mod Examples

@@ -6,6 +6,6 @@ pub mod Answers
 pub mod Ended
 pub mod Prints
 pub mod Before
-pub mod Signless
+pub mod JudgedBy
 pub mod Examples
 pub mod Numbers

@@ -1,12 +1,18 @@
--- The numbers that the expansion of a gate is written as. Assumes nothing.
+-- The expansion of a gate with spares is a circuit of 32 lines, and the numbers that it is written as. Assumes nothing.
 use mathlib.Core.List.{List, map}
-use Prim.Native.Nat.{ℕ, _≤_}
+use Prim.Native.Nat.{ℕ}
 use native.Mathlib.Nat.{le-refl}
+use Rattle.gates.specs.Circuit.{AllValid}
 use Rattle.gates.specs.Code.{code, AllCodes}
-use Rattle.gates.proofs.CodeLists.{all-valid-more, all-codes-code}
-use Rattle.cascades.specs.Expansion.{expansion, Expandable}
-use Rattle.cascades.specs.Cascade.{Below}
-use Rattle.cascades.proofs.Valid.{expansion-fits}
+use Rattle.gates.proofs.CodeLists.{all-codes-code}
+use Rattle.cascades.specs.Expansion.{expand-with}
+use Rattle.cascades.specs.Spares.{Spared}
+use Rattle.cascades.proofs.Spared.{spared-on-lines}
+use Rattle.cascades.proofs.Published.{expand-with-expands}
+use Rattle.cascades.proofs.Valid.{expands-valid}
 
-pub expansion-codes : (n : ℕ) → n ≤ 32 → (cs : List ℕ) (t : ℕ) → Expandable n cs t → Below n cs → AllCodes 32 (map code (expansion n cs t))
-expansion-codes n few cs t w b = let c = expansion n cs t in all-codes-code 32 c (le-refl 32) (all-valid-more n 32 c few (expansion-fits n cs t w b))
+pub spared-fits : {sp cs : List ℕ} {t : ℕ} → Spared 32 sp cs t → AllValid 32 (expand-with sp cs t)
+spared-fits {sp} {cs} {t} w = expands-valid 32 (spared-on-lines 32 w) (expand-with-expands 32 sp cs t w)
+
+pub spared-codes : {sp cs : List ℕ} {t : ℕ} → Spared 32 sp cs t → AllCodes 32 (map code (expand-with sp cs t))
+spared-codes {sp} {cs} {t} w = all-codes-code 32 (expand-with sp cs t) (le-refl 32) (spared-fits w)

@@ -1,80 +1,95 @@
--- The halves of a gate with three or more controls. Assumes nothing.
+-- The smaller gates of a gate with three or more controls, and the spares that they get. Assumes nothing.
 use mathlib.Core.Path.{_≡_, refl, ap, ap₂, _∙_}
-use mathlib.Core.Bool.{false}
-use mathlib.Core.List.{List, [], _∷_}
-use Prim.Native.Nat.{ℕ, zero, suc, _+_, _*_, _/_, _≤_, _<_}
+use mathlib.Core.List.{List, [], _∷_, _++_}
+use Prim.Native.Nat.{ℕ, zero, suc, _+_, _-_, _*_, _/_, _≤_, _<_}
 use native.Mathlib.Omega.{arith}
-use lib.ListN.{length, take, drop, length-take, length-drop}
+use lib.ListN.{length, take, drop, length-append, length-take, length-drop}
+use lib.Seq.{length-slice}
 use Rattle.gates.specs.declared.Gate.{Gate}
-use Rattle.meaning.specs.Pattern.{has}
-use Rattle.cascades.specs.Expansion.{spare, joined, expand, expansion, Expandable}
-use Rattle.cascades.specs.Cascade.{Below, OnLines}
-use Rattle.cascades.proofs.Halves.{on-lines, halves-on-lines, halves-expandable}
-use Rattle.cascades.proofs.Lowest.{spare-is}
+use Rattle.cascades.specs.Expansion.{joined, mct-spares, first-spare, m0-spares, m1-spares, expand, expand-with, Expandable}
+use Rattle.cascades.specs.Cascade.{Below}
+use Rattle.cascades.proofs.Spare.{distinct-length}
+use Rattle.cascades.proofs.Spared.{spared-m0, spared-m1, mct-spared}
 use Rattle.cascades.proofs.Counts.{length-joined}
+use Rattle.expansion.specs.Spares.{Spares, listed, Lists, SparesOf}
+use Rattle.expansion.proofs.Lines.{below-more}
 
-module _ (n : ℕ) where
-  -- what bounds the recursion does not matter, if it is more than the number of controls
-  any-bound : (f g : ℕ) (l : List ℕ) (t : ℕ) → length l < f → length l < g → expand f n l t ≡ expand g n l t
-  unfolding expand
-  any-bound zero g l t h k = absurd (omega arith)
-  any-bound (suc f) zero l t h k = absurd (omega arith)
-  any-bound (suc f) (suc g) [] t h k = refl
-  any-bound (suc f) (suc g) (a ∷ []) t h k = refl
-  any-bound (suc f) (suc g) (a ∷ b ∷ []) t h k = refl
-  any-bound (suc f) (suc g) (a ∷ b ∷ c ∷ cs) t h k =
-      let l : List ℕ = a ∷ b ∷ c ∷ cs in
-      let half : ℕ = length l / 2 in
-      let s : ℕ = spare n 0 (t ∷ l) in
-      let x = length-take half l in
-      let y = length-drop half l in
-      ap₂ (λ (p q : List Gate). joined s t p q) (any-bound f g (take half l) s (omega arith) (omega arith)) (any-bound f g (drop half l) s (omega arith) (omega arith))
+-- what bounds the recursion does not matter, if it is more than the number of controls
+any-bound : (f g : ℕ) (sp l : List ℕ) (t : ℕ) → length l < f → length l < g → expand f sp l t ≡ expand g sp l t
+unfolding expand
+any-bound zero g sp l t h k = absurd (omega arith)
+any-bound (suc f) zero sp l t h k = absurd (omega arith)
+any-bound (suc f) (suc g) sp [] t h k = refl
+any-bound (suc f) (suc g) sp (a ∷ []) t h k = refl
+any-bound (suc f) (suc g) sp (a ∷ b ∷ []) t h k = refl
+any-bound (suc f) (suc g) sp (a ∷ b ∷ c ∷ cs) t h k =
+    let l : List ℕ = a ∷ b ∷ c ∷ cs in
+    let half : ℕ = length l / 2 in
+    let s : ℕ = first-spare sp in
+    let x = length-take half l in
+    let y = length-drop half l in
+    ap₂ (λ (p q : List Gate). joined s t p q) (any-bound f g (m0-spares sp l t) (take half l) s (omega arith) (omega arith)) (any-bound f g (m1-spares sp l) (drop half l) s (omega arith) (omega arith))
 
-  expansion-joined : (l : List ℕ) (t : ℕ) → 3 ≤ length l → let s = spare n 0 (t ∷ l) in expansion n l t ≡ joined s t (expansion n (take (length l / 2) l) s) (expansion n (drop (length l / 2) l) s)
-  unfolding expand expansion
-  expansion-joined [] t h = absurd (omega arith)
-  expansion-joined (a ∷ []) t h = absurd (omega arith)
-  expansion-joined (a ∷ b ∷ []) t h = absurd (omega arith)
-  expansion-joined (a ∷ b ∷ c ∷ cs) t h =
-      let l : List ℕ = a ∷ b ∷ c ∷ cs in
-      let half : ℕ = length l / 2 in
-      let s : ℕ = spare n 0 (t ∷ l) in
-      let x = length-take half l in
-      let y = length-drop half l in
-      ap₂ (λ (p q : List Gate). joined s t p q)
-      (any-bound (length l) (suc (length (take half l))) (take half l) s (omega arith) (omega arith))
-      (any-bound (length l) (suc (length (drop half l))) (drop half l) s (omega arith) (omega arith))
+expand-joined : (sp l : List ℕ) (t : ℕ) → 3 ≤ length l → let s = first-spare sp in expand-with sp l t ≡ joined s t (expand-with (m0-spares sp l t) (take (length l / 2) l) s) (expand-with (m1-spares sp l) (drop (length l / 2) l) s)
+unfolding expand expand-with
+expand-joined sp [] t h = absurd (omega arith)
+expand-joined sp (a ∷ []) t h = absurd (omega arith)
+expand-joined sp (a ∷ b ∷ []) t h = absurd (omega arith)
+expand-joined sp (a ∷ b ∷ c ∷ cs) t h =
+    let l : List ℕ = a ∷ b ∷ c ∷ cs in
+    let half : ℕ = length l / 2 in
+    let s : ℕ = first-spare sp in
+    let x = length-take half l in
+    let y = length-drop half l in
+    ap₂ (λ (p q : List Gate). joined s t p q)
+    (any-bound (length l) (suc (length (take half l))) (m0-spares sp l t) (take half l) s (omega arith) (omega arith))
+    (any-bound (length l) (suc (length (drop half l))) (m1-spares sp l) (drop half l) s (omega arith) (omega arith))
 
--- ---- a gate and its smaller gates on the spare line s, with the first h controls and with the others
+-- ---- a gate and its smaller gates, with the first h controls and with the others, on its first spare s and with spares p and q
 
-pub record Part (n : ℕ) (cs : List ℕ) (s : ℕ) : Type 0 where
-  pub expandable : Expandable n cs s
-  pub below : Below n cs
+-- there is a spare, with room for all controls behind the spares
+pub spare-there : {cs : List ℕ} {t : ℕ} {s : Spares} → length (s .lines) ≡ 32 → 3 ≤ length cs → SparesOf cs t s → (s .first < s .end) × (s .end + length cs < 32)
+unfolding listed
+spare-there {s = s} e k w = (omega (arith, w .spared .enough k, w .room, length-slice (s .first) (s .end) (s .lines) (omega (arith, w .room))), w .room)
 
-pub record Split (n : ℕ) (l : List ℕ) (t s h : ℕ) : Type 0 where
-  pub first : Part n (take h l) s
-  pub second : Part n (drop h l) s
+pub record Split (sp : List ℕ) (l : List ℕ) (t s h : ℕ) (p q : Spares) : Type 0 where
+  pub first : SparesOf (take h l) s p
+  pub second : SparesOf (drop h l) s q
   pub fewer : length (take h l) < length l
   pub fewer-second : length (drop h l) < length l
   pub within : h ≤ length l
-  pub whole : expansion n l t ≡ joined s t (expansion n (take h l) s) (expansion n (drop h l) s)
-  pub room : length (expansion n l t) ≡ 4 + 2 * (length (expansion n (take h l) s) + length (expansion n (drop h l) s))
+  pub whole : expand-with sp l t ≡ joined s t (expand-with (listed p) (take h l) s) (expand-with (listed q) (drop h l) s)
+  pub room : length (expand-with sp l t) ≡ 4 + 2 * (length (expand-with (listed p) (take h l) s) + length (expand-with (listed q) (drop h l) s))
 
-pub split : (n : ℕ) (l : List ℕ) (t s h : ℕ) → 3 ≤ length l → Expandable n l t → Below n l → s ≡ spare n 0 (t ∷ l) → h ≡ length l / 2 → Split n l t s h
-split n l t s h k w b s-is h-is =
-    let j = w .unnamed-line k in
-    let found = spare-is n 0 (t ∷ l) (j .0) (omega arith) (omega (arith, j .1)) (j .2) in
-    let inside : s < n = omega (arith, found .1) in
-    let out : has s (t ∷ l) ≡ false = rw s-is (found .0) in
-    let parts : Expandable n (take h l) s × Expandable n (drop h l) s = rw h-is (halves-expandable n s w inside out) in
-    let lines : OnLines n (take h l) s × OnLines n (drop h l) s = rw h-is (halves-on-lines n s (on-lines n w b) inside out) in
-    let whole : expansion n l t ≡ joined s t (expansion n (take h l) s) (expansion n (drop h l) s) = rw (s-is, h-is) (expansion-joined n l t k) in
+pub split : (a p q : Spares) (l : List ℕ) (t s h : ℕ) → length (a .lines) ≡ 32 → 3 ≤ length l → SparesOf l t a → h ≡ length l / 2 → s ≡ first-spare (listed a)
+    → Lists p (a .first) (a .end + length (drop h l)) (t ∷ (drop 1 (listed a) ++ drop h l))
+    → Lists q (a .first + 1) (a .end + length (take h l)) (drop 1 (listed a) ++ take h l)
+    → Split (listed a) l t s h p q
+split a p q l t s h e k w h-is s-is lp lq =
+    let x = length-take h l in
+    let y = length-drop h l in
+    let there = spare-there e k w in
+    let p-are : listed p ≡ m0-spares (listed a) l t = lp .are ∙ rw h-is in
+    let q-are : listed q ≡ m1-spares (listed a) l = lq .are ∙ rw h-is in
+    let whole : expand-with (listed a) l t ≡ joined s t (expand-with (listed p) (take h l) s) (expand-with (listed q) (drop h l) s) = rw (p-are, q-are, s-is, h-is) (expand-joined (listed a) l t k) in
     record {
-      first = record { expandable = parts .0; below = lines .0 .below };
-      second = record { expandable = parts .1; below = lines .1 .below };
-      fewer = omega (arith, length-take h l);
-      fewer-second = omega (arith, length-drop h l);
+      first = record { spared = rw (p-are, s-is, h-is) (spared-m0 32 k (w .spared)); in-order = omega (arith, lp .starts, lp .ends, w .in-order); room = omega (arith, lp .ends, w .room) };
+      second = record { spared = rw (q-are, s-is, h-is) (spared-m1 32 k (w .spared)); in-order = omega (arith, lq .starts, lq .ends, there .0); room = omega (arith, lq .ends, w .room) };
+      fewer = omega arith;
+      fewer-second = omega arith;
       within = omega arith;
       whole = whole;
-      room = ap length whole ∙ length-joined s t (expansion n (take h l) s) (expansion n (drop h l) s);
+      room = ap length whole ∙ length-joined s t (expand-with (listed p) (take h l) s) (expand-with (listed q) (drop h l) s);
+    }
+
+-- ---- the spares of an mct gate
+
+pub mct-spares-of : (n : ℕ) (cs : List ℕ) (t : ℕ) (s : Spares) → n ≤ 32 → Expandable n cs t → Below n cs → Lists s 0 (length (mct-spares n cs t)) (mct-spares n cs t) → SparesOf cs t s
+mct-spares-of n cs t s few w b l =
+    let p = mct-spared n w b in
+    let long = distinct-length n (t ∷ (cs ++ mct-spares n cs t)) (p .apart) (p .below) in
+    record {
+      spared = rw (l .are) (record { apart = p .apart; below = below-more n 32 (t ∷ (cs ++ mct-spares n cs t)) few (p .below); enough = p .enough });
+      in-order = omega (arith, l .starts);
+      room = omega (arith, l .ends, long, length-append cs (mct-spares n cs t));
     }

@@ -1,16 +1,16 @@
--- The lowest line without a mark is the spare line. Assumes nothing.
+-- Marks: the lines without one are those outside the list of the lines that have theirs. Assumes nothing.
 use mathlib.Core.Path.{_≡_, refl, sym, ap, _∙_}
 use mathlib.Core.Bool.{Bool, true, false, not, cond, _||_, or-false, or-comm, or-assoc}
-use mathlib.Core.List.{List, [], _∷_}
+use mathlib.Core.List.{List, [], _∷_, _++_, append-nil, append-assoc}
 use Prim.Native.Nat.{ℕ, zero, suc, _+_, _-_, _≤_, _<_}
 use native.Mathlib.Omega.{arith}
 use native.Mathlib.Numerals.{add-one}
 use lib.Dec.{eqb}
 use borrow.Author.Tests.{eqb-true, eqb-false, not-true, not-false}
-use lib.ListN.{length, getD, set, drop, replicate, length-set, length-replicate, getD-replicate, drop-of-length-le}
-use lib.Seq.{drop-cons, getD-set-same, getD-set-other}
+use lib.ListN.{length, getD, set, take, drop, replicate, length-set, length-replicate, getD-replicate, drop-of-length-le}
+use lib.Seq.{drop-cons, getD-set-same, getD-set-other, take-suc-set}
 use Rattle.meaning.specs.Pattern.{has}
-use Rattle.cascades.specs.Expansion.{spare}
+use Rattle.cascades.specs.Expansion.{lines-outside}
 use Rattle.expansion.specs.Marks.{mark, marks, unmarked}
 
 -- ---- setting the marks
@@ -48,30 +48,38 @@ read-marks : (l : List ℕ) (i : ℕ) → i < 32 → getD (marks l) i false ≡ 
 unfolding marks
 read-marks l i h = read-mark (replicate 32 false) l i (omega (arith, length-replicate 32 false)) ∙ ap (λ (b : Bool). b || has i l) (getD-replicate 32 i false false h)
 
--- ---- the lowest line without one
+-- ---- the lines without one
 
--- of the i + 1 highest of n lines: the lowest of these itself, if it has no mark, and else as before
-step : (n i : ℕ) (m : List Bool) → i < n → unmarked (i + 1) (n - (i + 1)) m ≡ cond (getD m (n - 1 - i) false) (unmarked i (n - i) m) (n - 1 - i)
+unmarked-next : (n i : ℕ) (m : List Bool) → i < n → unmarked (n - i) i m ≡ cond (getD m i false) (unmarked (n - (i + 1)) (i + 1) m) (i ∷ unmarked (n - (i + 1)) (i + 1) m)
 unfolding unmarked
-step n i m h =
-    let e : n - (i + 1) ≡ n - 1 - i = omega arith in
-    let f : suc (n - 1 - i) ≡ n - i = omega arith in
-    rw (e, add-one i, ← f)
+unmarked-next n i m h = let e : n - i ≡ suc (n - (i + 1)) = omega arith in rw (e, add-one i)
 
-pub unmarked-none : (n : ℕ) (m : List Bool) → n ≡ unmarked 0 (n - 0) m
+unmarked-here : (n i : ℕ) (m : List Bool) → i < n → not (getD m i false) ≡ true → unmarked (n - i) i m ≡ i ∷ unmarked (n - (i + 1)) (i + 1) m
+unmarked-here n i m h e = unmarked-next n i m h ∙ rw (not-true (getD m i false) e)
+
+unmarked-later : (n i : ℕ) (m : List Bool) → i < n → not (getD m i false) ≡ false → unmarked (n - i) i m ≡ unmarked (n - (i + 1)) (i + 1) m
+unmarked-later n i m h e = unmarked-next n i m h ∙ rw (not-false (getD m i false) e)
+
+unmarked-end : (n i : ℕ) (m : List Bool) → n ≤ i → unmarked (n - i) i m ≡ []
 unfolding unmarked
-unmarked-none n m = omega arith
+unmarked-end n i m h = let e : n - i ≡ 0 = omega arith in rw e
 
-pub unmarked-here : (n i : ℕ) (m : List Bool) → i < n → not (getD m (n - 1 - i) false) ≡ true → n - 1 - i ≡ unmarked (i + 1) (n - (i + 1)) m
-unmarked-here n i m h e = sym (step n i m h ∙ ap (λ (b : Bool). cond b (unmarked i (n - i) m) (n - 1 - i)) (not-true (getD m (n - 1 - i) false) e))
+pub unmarked-outside : (k i : ℕ) (l : List ℕ) → i + k ≤ 32 → unmarked k i (marks l) ≡ lines-outside k i l
+unfolding unmarked lines-outside
+unmarked-outside zero i l h = refl
+unmarked-outside (suc k) i l h = rw (read-marks l i (omega arith), unmarked-outside k (suc i) l (omega arith))
 
-pub unmarked-higher : (n i : ℕ) (m : List Bool) → i < n → not (getD m (n - 1 - i) false) ≡ false → unmarked i (n - i) m ≡ unmarked (i + 1) (n - (i + 1)) m
-unmarked-higher n i m h e = sym (step n i m h ∙ ap (λ (b : Bool). cond b (unmarked i (n - i) m) (n - 1 - i)) (not-false (getD m (n - 1 - i) false) e))
+-- ---- lines found one after the other: the first of m, and those of the n from i on that are still to come
 
-pub unmarked-all : (n i : ℕ) (m : List Bool) → i ≡ n → unmarked i (n - i) m ≡ unmarked n 0 m
-unmarked-all n i m e = let z : n - n ≡ 0 = omega arith in rw (e, z)
+pub found-here : (n i k : ℕ) (m : List Bool) (found : List ℕ) → i < n → k < length found → not (getD m i false) ≡ true → take (k + 1) (set found k i) ++ unmarked (n - (i + 1)) (i + 1) m ≡ take k found ++ unmarked (n - i) i m
+found-here n i k m found h r e =
+    let one-more : take (k + 1) (set found k i) ≡ take k found ++ (i ∷ []) = rw (add-one k) (take-suc-set found k i r) in
+    ap (λ (l : List ℕ). l ++ unmarked (n - (i + 1)) (i + 1) m) one-more
+    ∙ append-assoc (take k found) (i ∷ []) (unmarked (n - (i + 1)) (i + 1) m)
+    ∙ ap (λ (l : List ℕ). take k found ++ l) (sym (unmarked-here n i m h e))
 
-pub unmarked-spare : (k i : ℕ) (l : List ℕ) → i + k ≤ 32 → unmarked k i (marks l) ≡ spare k i l
-unfolding unmarked spare
-unmarked-spare zero i l h = refl
-unmarked-spare (suc k) i l h = rw (read-marks l i (omega arith), unmarked-spare k (suc i) l (omega arith))
+pub found-later : (n i k : ℕ) (m : List Bool) (found : List ℕ) → i < n → not (getD m i false) ≡ false → take k found ++ unmarked (n - (i + 1)) (i + 1) m ≡ take k found ++ unmarked (n - i) i m
+found-later n i k m found h e = ap (λ (l : List ℕ). take k found ++ l) (sym (unmarked-later n i m h e))
+
+pub found-all : (n i k : ℕ) (m : List Bool) (found : List ℕ) → n ≤ i → take k found ++ unmarked (n - i) i m ≡ unmarked n 0 m → take k found ≡ unmarked n 0 m
+found-all n i k m found h e = sym (append-nil (take k found)) ∙ ap (λ (l : List ℕ). take k found ++ l) (sym (unmarked-end n i m h)) ∙ e

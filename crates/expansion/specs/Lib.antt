@@ -1,3 +1,4 @@
 -- The definitions of this crate, in reading order.
 pub mod Marks
+pub mod Spares
 pub mod Written

@@ -1,4 +1,4 @@
--- The marks of lines, from which the spare line is found. Assumes nothing.
+-- The marks of lines, from which the spare lines of an mct gate are found. Assumes nothing.
 use mathlib.Core.Bool.{Bool, true, false, cond}
 use mathlib.Core.List.{List, [], _∷_}
 use Prim.Native.Nat.{ℕ, zero, suc}
@@ -13,7 +13,7 @@ mark m (c ∷ cs) = mark (set m c true) cs
 unfoldable pub marks : List ℕ → List Bool
 marks l = mark (replicate 32 false) l
 
--- the lowest of the k lines from i on that has no mark; i + k if each has one
-unfoldable pub unmarked : ℕ → ℕ → List Bool → ℕ
-unmarked zero i m = i
-unmarked (suc k) i m = cond (getD m i false) (unmarked k (suc i) m) i
+-- those of the k lines from i on that have no mark, rising
+unfoldable pub unmarked : ℕ → ℕ → List Bool → List ℕ
+unmarked zero i m = []
+unmarked (suc k) i m = cond (getD m i false) (unmarked k (suc i) m) (i ∷ unmarked k (suc i) m)

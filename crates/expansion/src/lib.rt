@@ -2,16 +2,17 @@
 use gates::Gate;
 use gates::encode;
 ghost use mathlib.Core.Path.{_≡_};
-ghost use mathlib.Core.List.{_∷_, []};
+ghost use mathlib.Core.List.{_∷_, [], _++_};
 ghost use Prim.Native.Nat.{_+_, _-_, _/_, _≤_, _<_};
-ghost use lib.ListN.{length, getD};
+ghost use lib.ListN.{length, getD, drop};
 ghost use lib.Seq.{slice};
 ghost use Rattle.gates.specs.Code.{Code, AllCodes, code, gate, gates as gates-of};
 ghost use Rattle.gates.specs.Inverse.{inverted as inverted-gate, inverse};
-ghost use Rattle.cascades.specs.Expansion.{spare, v, v⁺, cn, _⨾_, expansion, Expandable, counts};
+ghost use Rattle.cascades.specs.Expansion.{v, v⁺, cn, _⨾_, mct-spares, first-spare as first-of, expand-with, expansion, Expandable, counts};
 ghost use Rattle.cascades.specs.Signs.{nots as nots-on, between-nots};
 ghost use Rattle.cascades.specs.Cascade.{Below};
 ghost use Rattle.expansion.specs.Marks.{marks as marks-of, unmarked};
+ghost use Rattle.expansion.specs.Spares.{listed, Lists, SparesOf};
 ghost use Rattle.expansion.specs.Written.{Written};
 
 // Gates for k = 0 to 15 controls.
@@ -64,31 +65,107 @@ fn named(controls: &[u8], target: u8) -> [bool; 32]
     marks
 }
 
-// The lowest line without a mark; `lines` if each line has one.
-fn lowest_unmarked(marks: [bool; 32], lines: u8) -> u8
+// The spare lines of a gate, in order: those of `lines` from `first` up to `end`.
+pub struct Spares {
+    pub lines: [u8; 32],
+    pub first: usize,
+    pub end: usize,
+}
+
+// All lines without a mark, rising.
+fn unmarked_lines(marks: [bool; 32], lines: u8) -> Spares
     requires { ⌜ lines ≤ 32 ⌝ }
-    ensures { λ r. ⌜ r ≡ unmarked lines 0 marks ⌝ }
+    ensures { λ r. ⌜ Lists r 0 (length (unmarked lines 0 marks)) (unmarked lines 0 marks) ⌝ }
 {
-    let mut found = lines;
+    let mut found = [0; 32];
+    let mut count = 0;
     let mut i = 0;
     while i < lines {
-        let line = lines - 1 - i;
-        if !marks[line as usize] {
-            found = line;
+        if !marks[i as usize] {
+            found[count] = i;
+            count += 1;
         }
         i += 1;
     }
-    found
+    Spares {
+        lines: found,
+        first: 0,
+        end: count,
+    }
 }
 
-// The lowest line that a gate names neither as control nor as target.
-fn spare_line(lines: u8, controls: &[u8], target: u8) -> u8
+// The spares of an mct: all lines that it names neither as control nor as target, rising.
+fn unnamed(lines: u8, controls: &[u8], target: u8) -> Spares
     requires { ⌜ lines ≤ 32 ⌝ }
     requires { ⌜ target < lines ⌝ }
     requires { ⌜ Below lines (now controls) ⌝ }
-    ensures { λ r. ⌜ r ≡ spare lines 0 (target ∷ now (controls .entry)) ⌝ }
+    ensures { λ r. ⌜ Lists r 0 (length (mct-spares lines (now (controls .entry)) target)) (mct-spares lines (now (controls .entry)) target) ⌝ }
 {
-    lowest_unmarked(named(controls, target), lines)
+    unmarked_lines(named(controls, target), lines)
+}
+
+// The spares with more lines behind them.
+fn followed(spares: Spares, more: &[u8]) -> Spares
+    requires { ⌜ (spares .first ≤ spares .end) × (spares .end + length (now more) ≤ 32) ⌝ }
+    ensures { λ r. ⌜ Lists r (spares .first) (spares .end + length (now (more .entry))) (listed spares ++ now (more .entry)) ⌝ }
+{
+    let end = spares.end;
+    let mut lines = spares.lines;
+    let mut i = 0;
+    while i < more.len() {
+        lines[end + i] = more[i];
+        i += 1;
+    }
+    Spares {
+        lines,
+        first: spares.first,
+        end: end + more.len(),
+    }
+}
+
+// The spares of M0: t in the place of s, the remaining spares, then C1.
+fn m0_spares(spares: Spares, target: u8, c1: &[u8]) -> Spares
+    requires { ⌜ (spares .first < spares .end) × (spares .end + length (now c1) ≤ 32) ⌝ }
+    ensures { λ r. ⌜ Lists r (spares .first) (spares .end + length (now (c1 .entry))) (target ∷ (drop 1 (listed spares) ++ now (c1 .entry))) ⌝ }
+{
+    let first = spares.first;
+    let mut lines = spares.lines;
+    lines[first] = target;
+    followed(
+        Spares {
+            lines,
+            first,
+            end: spares.end,
+        },
+        c1,
+    )
+}
+
+// The spares of M1: the remaining spares, then C0.
+fn m1_spares(spares: Spares, c0: &[u8]) -> Spares
+    requires { ⌜ (spares .first < spares .end) × (spares .end + length (now c0) ≤ 32) ⌝ }
+    ensures { λ r. ⌜ Lists r (spares .first + 1) (spares .end + length (now (c0 .entry))) (drop 1 (listed spares) ++ now (c0 .entry)) ⌝ }
+{
+    let first = spares.first + 1;
+    let lines = spares.lines;
+    followed(
+        Spares {
+            lines,
+            first,
+            end: spares.end,
+        },
+        c0,
+    )
+}
+
+// Each gate takes the first of its spares as s.
+fn first_spare(spares: Spares) -> u8
+    requires { ⌜ (spares .first < spares .end) × (spares .end ≤ 32) ⌝ }
+    ensures { λ r. ⌜ r ≡ first-of (listed spares) ⌝ }
+{
+    let first = spares.first;
+    let lines = spares.lines;
+    lines[first]
 }
 
 // Writes one gate, and says where the next one goes.
@@ -139,21 +216,11 @@ fn toffoli(list: &mut [u16], at: usize, a: u8, b: u8, target: u8) -> usize
     put(list, l, Gate::Powered(1, a, target))
 }
 
-// C0 is the first floor(k/2) controls.
-fn half(k: usize) -> usize
-    ensures { λ r. ⌜ r ≡ k / 2 ⌝ }
-{
-    k / 2
-}
-
-// Writes the expansion of a NOT with controls from `at` on, and says where it ends. With three or more controls, in order:
-// v s t; M0; vp s t; M1; v s t; M2; vp s t; M3, where s is the spare line.
-pub fn expand(lines: u8, controls: &[u8], target: u8, list: &mut [u16], at: usize) -> usize
-    requires { ⌜ lines ≤ 32 ⌝ }
-    requires { ⌜ Expandable lines (now controls) target ⌝ }
-    requires { ⌜ Below lines (now controls) ⌝ }
-    requires { ⌜ at + length (expansion lines (now controls) target) ≤ length (now list) ⌝ }
-    ensures { λ r. ⌜ Written (expansion lines (now (controls .entry)) target) (now (list .entry)) at (now (list .exit)) r ⌝ }
+// Writes the expansion of a NOT with at most two controls, which takes no spare line.
+fn expand_few(controls: &[u8], target: u8, list: &mut [u16], at: usize) -> usize
+    requires { ⌜ length (now controls) < 3 ⌝ }
+    requires { ⌜ at + length (expand-with [] (now controls) target) ≤ length (now list) ⌝ }
+    ensures { λ r. ⌜ Written (expand-with [] (now (controls .entry)) target) (now (list .entry)) at (now (list .exit)) r ⌝ }
 {
     let k = controls.len();
     if k == 0 {
@@ -162,19 +229,53 @@ pub fn expand(lines: u8, controls: &[u8], target: u8, list: &mut [u16], at: usiz
     if k == 1 {
         return put(list, at, Gate::Powered(2, controls[0], target));
     }
-    if k == 2 {
-        return toffoli(list, at, controls[0], controls[1], target);
+    toffoli(list, at, controls[0], controls[1], target)
+}
+
+// C0 is the first floor(k/2) controls.
+fn half(k: usize) -> usize
+    ensures { λ r. ⌜ r ≡ k / 2 ⌝ }
+{
+    k / 2
+}
+
+// Writes the expansion of a NOT with controls and an ordered list of spares from `at` on, and says where it ends. With three or more controls, in
+// order: v s t; M0; vp s t; M1; v s t; M2; vp s t; M3, where s is the first of the spares, and M0 and M1 get lists of their own.
+fn expand_with(spares: Spares, controls: &[u8], target: u8, list: &mut [u16], at: usize) -> usize
+    requires { ⌜ SparesOf (now controls) target spares ⌝ }
+    requires { ⌜ at + length (expand-with (listed spares) (now controls) target) ≤ length (now list) ⌝ }
+    ensures { λ r. ⌜ Written (expand-with (listed spares) (now (controls .entry)) target) (now (list .entry)) at (now (list .exit)) r ⌝ }
+{
+    let k = controls.len();
+    if k < 3 {
+        return expand_few(controls, target, list, at);
     }
     let h = half(k);
-    let s = spare_line(lines, controls, target);
+    let s = first_spare(spares);
+    let for_m0 = m0_spares(spares, target, &controls[h..]);
+    let for_m1 = m1_spares(spares, &controls[..h]);
     let m0 = put(list, at, Gate::Powered(1, s, target));
-    let m0_end = expand(lines, &controls[..h], s, list, m0);
+    let m0_end = expand_with(for_m0, &controls[..h], s, list, m0);
     let m1 = put(list, m0_end, Gate::Powered(3, s, target));
-    let m1_end = expand(lines, &controls[h..], s, list, m1);
+    let m1_end = expand_with(for_m1, &controls[h..], s, list, m1);
     let m2 = put(list, m1_end, Gate::Powered(1, s, target));
     let m2_end = invert(list, m0, m0_end, m2);
     let m3 = put(list, m2_end, Gate::Powered(3, s, target));
     invert(list, m1, m1_end, m3)
+}
+
+// Writes the expansion of a NOT with controls, whose spares are all unnamed lines, rising.
+pub fn expand(lines: u8, controls: &[u8], target: u8, list: &mut [u16], at: usize) -> usize
+    requires { ⌜ lines ≤ 32 ⌝ }
+    requires { ⌜ Expandable lines (now controls) target ⌝ }
+    requires { ⌜ Below lines (now controls) ⌝ }
+    requires { ⌜ at + length (expansion lines (now controls) target) ≤ length (now list) ⌝ }
+    ensures { λ r. ⌜ Written (expansion lines (now (controls .entry)) target) (now (list .entry)) at (now (list .exit)) r ⌝ }
+{
+    if controls.len() < 3 {
+        return expand_few(controls, target, list, at);
+    }
+    expand_with(unnamed(lines, controls, target), controls, target, list, at)
 }
 
 // Writes a NOT on each of the lines, in order.

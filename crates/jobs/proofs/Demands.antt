@@ -129,6 +129,10 @@ answer {n} {c} a =
       listed = subst (λ (m : ℕ). Listed (wanted (a .job) (a .entry)) m c (a .exit) (s .0)) (a .lines) (listed-answer (wanted (a .job) (a .entry)) (a .entry) (a .head) c (s .0) (a .exit) (facts p (s .1)) (s .1) (s .2));
     }
 
+-- the text of a run is one that the rules let pass
+pub ran-text : {n : ℕ} {c r : List Gate} (a : Ran n c r) → Text (takes (a .job)) n (a .entry .text) c
+ran-text a = answer a .text
+
 pub ran-reduced : {n : ℕ} {c r : List Gate} → Ran n c r → Reduced n c r
 ran-reduced {n} {c} {r} a = go (a .listed) (answer a .listed)
   where

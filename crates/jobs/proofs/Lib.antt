@@ -5,6 +5,9 @@ pub mod Demands
 pub mod Numbers
 pub mod Quoting
 pub mod Before
+pub mod JudgedBy
 pub mod Signless
+pub mod Lowest
+pub mod Placement
 pub mod Table
 pub mod Handed

@@ -1,4 +1,4 @@
--- The starred examples hold, and those of negated controls. Assumes nothing.
+-- The starred examples hold, and those of negated controls and of spare lines. Assumes nothing.
 use mathlib.Core.Path.{_≡_, refl, sym, ap, _∙_}
 use mathlib.Core.Bool.{Bool, true, false, not, _&&_, true≢false}
 use mathlib.Core.List.{List, [], _∷_}
@@ -15,7 +15,7 @@ use Rattle.gates.specs.Circuit as C
 use Rattle.gates.specs.Circuit.{slot, power, powered}
 use Rattle.meaning.specs.Pattern.{has}
 use Rattle.gates.specs.Inverse.{inverse, inverted}
-use Rattle.cascades.specs.Expansion.{spare, _⨾_, joined, expand, expansion}
+use Rattle.cascades.specs.Expansion.{_⨾_, joined, lines-outside, mct-spares, first-spare, expand, expand-with, expansion}
 use Rattle.cascades.specs.Control.{control-lines, negated-lines}
 use Rattle.cascades.specs.Signs.{nots, between-nots, expansion±}
 use Rattle.meaning.proofs.Flips.{both}
@@ -30,7 +30,7 @@ use Rattle.text.specs.Judging as J
 use Rattle.text.specs.declared.Kind.{Kind}
 use Rattle.text.specs.Judging.{Judged, turned-away, accepted, belongs, most, any-from, rising, first, head-rules, rules, or-else, judge-lines, judge-text, read-all, judge}
 use Rattle.jobs.specs.Jobs.{Job, mapping, reducing, takes, wanted, Entry, Exit, judged, written, put-out, answered, Says}
-use Rattle.jobs.specs.Examples.{typed, Answer, text, quote, away, Row, gives, expands, Shows, Gets, Correct, table, signed-table}
+use Rattle.jobs.specs.Examples.{typed, Answer, text, quote, away, Row, gives, expands, Shows, Gets, Correct, table, signed-table, published-table}
 use Rattle.jobs.proofs.Habits.{judged-sized}
 use Rattle.jobs.proofs.One.{judged-accepted, passed-valid, is-nf}
 use Rattle.jobs.proofs.Demands.{text-wanted, count-wanted, says-accepted, says-turned-away, area-front, refusal-is}
@@ -77,7 +77,7 @@ fits j (turned-away r l) (away m k) = eqb (number-of r) m && eqb l k
 
 unfoldable test : Row → Bool
 test (gives j ls a) = not (ltb 60000 (length (typed ls))) && fits j (judge (takes j) (typed ls)) a
-test (expands n cs t s m) = eqb (spare n 0 (t ∷ cs)) s && eqb (length (expansion n cs t)) m
+test (expands n cs t s m) = eqb (first-spare (mct-spares n cs t)) s && eqb (length (expansion n cs t)) m
 
 unfoldable tests : List Row → Bool
 tests [] = true
@@ -119,21 +119,28 @@ unfolding test Correct
 test-correct (gives j ls a) t = λ e x q l m y.
     let u = both (not (ltb 60000 (length (typed ls)))) (fits j (judge (takes j) (typed ls)) a) t in
     fits-shown j e x (judge (takes j) (typed ls)) a (judged-is (takes j) e (typed ls) q (ltb-false 60000 (length (typed ls)) (not-true (ltb 60000 (length (typed ls))) (u .0))) l) m y (u .1)
-test-correct (expands n cs t s m) h = let u = both (eqb (spare n 0 (t ∷ cs)) s) (eqb (length (expansion n cs t)) m) h in (eqb-true (spare n 0 (t ∷ cs)) s (u .0), eqb-true (length (expansion n cs t)) m (u .1))
+test-correct (expands n cs t s m) h = let u = both (eqb (first-spare (mct-spares n cs t)) s) (eqb (length (expansion n cs t)) m) h in (eqb-true (first-spare (mct-spares n cs t)) s (u .0), eqb-true (length (expansion n cs t)) m (u .1))
 
 tests-correct : (rs : List Row) → tests rs ≡ true → Every Correct rs
 unfolding tests
 tests-correct [] t = tt
 tests-correct (r ∷ rs) t = let u = both (test r) (tests rs) t in (test-correct r (u .0), tests-correct rs (u .1))
 
-pass : (tests table && tests signed-table) ≡ true
-unfolding answers fits test tests typed takes has inverse inverted spare _⨾_ joined expand expansion control-lines negated-lines nots between-nots expansion± strip second num tail pair R.signed R.control R.controls list many lines-body not-body mct-body powered-body parse whole read longer cut J.controls J.target J.gates belongs most any-from rising first head-rules rules or-else judge-lines judge-text read-all judge C.target slot power powered same-dec less-dec passes-dec merged free-dec turn-of turn place push nf ℕ-discrete decLt digits spaced one two word render rendered circuit-text
+pass : (tests table && (tests signed-table && tests published-table)) ≡ true
+unfolding answers fits test tests typed takes has inverse inverted _⨾_ joined lines-outside mct-spares expand expand-with expansion control-lines negated-lines nots between-nots expansion± strip second num tail pair R.signed R.control R.controls list many lines-body not-body mct-body powered-body parse whole read longer cut J.controls J.target J.gates belongs most any-from rising first head-rules rules or-else judge-lines judge-text read-all judge C.target slot power powered same-dec less-dec passes-dec merged free-dec turn-of turn place push nf ℕ-discrete decLt digits spaced one two word render rendered circuit-text
 pass = refl
+
+pass-orders : (tests signed-table && tests published-table) ≡ true
+pass-orders = both (tests table) (tests signed-table && tests published-table) pass .1
 
 -- document 01's starred examples
 pub examples : Every Correct table
-examples = tests-correct table (both (tests table) (tests signed-table) pass .0)
+examples = tests-correct table (both (tests table) (tests signed-table && tests published-table) pass .0)
 
 -- those of order 4
 pub signed-examples : Every Correct signed-table
-signed-examples = tests-correct signed-table (both (tests table) (tests signed-table) pass .1)
+signed-examples = tests-correct signed-table (both (tests signed-table) (tests published-table) pass-orders .0)
+
+-- those of order 5
+pub published-examples : Every Correct published-table
+published-examples = tests-correct published-table (both (tests signed-table) (tests published-table) pass-orders .1)

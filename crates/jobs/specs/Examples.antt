@@ -1,10 +1,10 @@
--- Document 01's starred examples, as one table, and those of negated controls (document 02, order 4). Assumes nothing.
+-- Document 01's starred examples, as one table, and those of negated controls and of spare lines (document 02, orders 4 and 5). Assumes nothing.
 use Prim.Native.Nat.{ℕ, _≤_}
 use Prim.Native.String.{String}
 use mathlib.Core.Path.{_≡_}
 use mathlib.Core.List.{List, [], _∷_, _++_}
 use lib.ListN.{length, take}
-use Rattle.cascades.specs.Expansion.{spare, expansion}
+use Rattle.cascades.specs.Expansion.{mct-spares, first-spare, expansion}
 use Rattle.text.specs.Text.{bytes}
 use Rattle.jobs.specs.Jobs.{Job, mapping, reducing, Entry, Exit, Says}
 
@@ -21,7 +21,7 @@ pub data Answer : Type 0 where
 
 pub data Row : Type 0 where
   gives : Job → List String → Answer → Row
-  -- on n lines the gate with these controls and target: its spare line, and how many gates it expands to
+  -- on n lines the gate with these controls and target: the spare line that it takes, and how many gates it expands to
   expands : ℕ → List ℕ → ℕ → ℕ → ℕ → Row
 
 unfoldable pub Shows : Answer → Exit → Type 0
@@ -38,7 +38,7 @@ Gets (away r l) a = Unit {0}
 -- whatever gate list of at least 4,096 records and such answer area is lent
 unfoldable pub Correct : Row → Type 0
 Correct (gives j ls a) = (e : Entry) (x : Exit) → e .text ≡ typed ls → 4096 ≤ length (e .list) → Gets a (e .area) → Says j e x → Shows a x
-Correct (expands n cs t s m) = (spare n 0 (t ∷ cs) ≡ s) × (length (expansion n cs t) ≡ m)
+Correct (expands n cs t s m) = (first-spare (mct-spares n cs t) ≡ s) × (length (expansion n cs t) ≡ m)
 
 abbrev pub table : List Row
 table =
@@ -66,4 +66,13 @@ signed-table =
     ∷ gives mapping ("(lines 3)" ∷ "(mct (-0 -1) 2)" ∷ []) (quote 9)
     ∷ gives mapping ("(lines 2)" ∷ "(mct (-0) 1)" ∷ "(mct (0) 1)" ∷ []) (text ("(lines 2)" ∷ "(not 0)" ∷ "(cn 0 1)" ∷ "(not 0)" ∷ "(cn 0 1)" ∷ []) 4 44)
     ∷ gives mapping ("(lines 4)" ∷ "(mct (-0 1 -2) 3)" ∷ []) (away 8 2)
+    ∷ []
+
+-- spare lines in the published order: `(mct (0 1 2 3 4) 5)` borrows 6, and where there is a line 7 its M1 borrows that, so that more of it merges
+abbrev pub published-table : List Row
+published-table =
+    expands 8 (0 ∷ 1 ∷ 2 ∷ 3 ∷ 4 ∷ []) 5 6 46
+    ∷ gives mapping ("(lines 8)" ∷ "(mct (0 1 2 3 4) 5)" ∷ []) (quote 32)
+    ∷ gives mapping ("(lines 7)" ∷ "(mct (0 1 2 3 4) 5)" ∷ []) (quote 42)
+    ∷ gives mapping ("(lines 6)" ∷ "(mct (0 1 2 3 4) 5)" ∷ []) (away 8 2)
     ∷ []

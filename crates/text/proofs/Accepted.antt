@@ -14,7 +14,7 @@ use Rattle.gates.specs.declared.Gate.{Gate}
 use Rattle.gates.specs.declared.Gate.the-variants.{Not, Powered}
 use Rattle.gates.specs.Circuit.{valid-not, valid-powered, AllValid}
 use Rattle.meaning.specs.Pattern.{has}
-use Rattle.cascades.specs.Expansion.{_⨾_, expand, expansion, Expandable}
+use Rattle.cascades.specs.Expansion.{_⨾_, expand, expand-with, expansion, Expandable}
 use Rattle.cascades.specs.declared.Control.{Control}
 use Rattle.cascades.specs.Control.{negative, control-lines, negated-lines}
 use Rattle.cascades.specs.Signs.{nots, between-nots, expansion±}
@@ -216,7 +216,7 @@ nots-rise n cs t g = negated-rising cs (g .ordered)
 
 -- what `(mct (-0) 1)` puts into a circuit
 signed-gates : gates 2 (mct (negative 0 ∷ []) 1) ≡ Not 0 ∷ Powered 2 0 1 ∷ Not 0 ∷ []
-unfolding gates expansion± between-nots nots control-lines negated-lines expansion expand _⨾_
+unfolding gates expansion± between-nots nots control-lines negated-lines expansion expand-with expand _⨾_
 signed-gates = refl
 
 pub good-valid : (k : Kind) (n : ℕ) (f : Form) → Good k n f → AllValid n (gates n f)

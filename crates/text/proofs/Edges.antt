@@ -7,7 +7,7 @@ use lib.Dec.{eqb}
 use lib.ListN.{length}
 use Rattle.meaning.specs.Pattern.{has}
 use Rattle.gates.specs.Inverse.{inverse, inverted}
-use Rattle.cascades.specs.Expansion.{spare, _⨾_, joined, expand, expansion}
+use Rattle.cascades.specs.Expansion.{_⨾_, joined, lines-outside, mct-spares, expand, expand-with, expansion}
 use Rattle.cascades.specs.Control.{control-lines, negated-lines}
 use Rattle.cascades.specs.Signs.{nots, between-nots, expansion±}
 use Rattle.text.specs.Text.{bytes}
@@ -107,5 +107,5 @@ edges =
     ∷ []
 
 edges-hold : all-hold edges ≡ true
-unfolding times is-away is-passed holds all-hold has inverse inverted spare _⨾_ joined expand expansion strip second num tail pair R.signed control-lines negated-lines nots between-nots expansion± R.control R.controls list many lines-body not-body mct-body powered-body parse whole read longer cut J.controls J.target J.gates belongs most any-from rising first head-rules rules or-else judge-lines judge-text read-all judge
+unfolding times is-away is-passed holds all-hold has inverse inverted _⨾_ joined lines-outside mct-spares expand expand-with expansion strip second num tail pair R.signed control-lines negated-lines nots between-nots expansion± R.control R.controls list many lines-body not-body mct-body powered-body parse whole read longer cut J.controls J.target J.gates belongs most any-from rising first head-rules rules or-else judge-lines judge-text read-all judge
 edges-hold = refl

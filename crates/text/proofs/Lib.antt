@@ -6,5 +6,7 @@ pub mod Written
 pub mod Cursor
 pub mod Edges
 pub mod Unambiguous
+pub mod JudgedBy
 pub mod Unsigned
 pub mod Signless
+pub mod Lowest

@@ -1,21 +1,19 @@
--- What a text was judged to be before controls had signs: the definitions of then. A control was a number. Forms are those of now, with controls
--- that have no sign; `controls`, `target` and `belongs` read them as they read those of then. Assumes nothing.
-use mathlib.Core.Bool.{Bool, true, false, cond, not, _&&_, _||_}
-use mathlib.Core.List.{List, [], _∷_, _++_}
-use Prim.Native.Nat.{ℕ, zero, suc, _+_}
+-- What a text was judged to be before controls had signs: the definitions of then, but for the order of spare lines, which is that of now
+-- (`Lowest.antt` has the one of then). A control was a number. Forms are those of now, with controls that have no sign; `controls`, `target` and
+-- `belongs` read them as they read those of then. Assumes nothing.
+use mathlib.Core.Bool.{Bool, true, false, cond}
+use mathlib.Core.List.{List, [], _∷_}
+use Prim.Native.Nat.{ℕ, zero, suc}
 use lib.ListN.{length}
-use lib.Dec.{eqb, leb, ltb}
 use Rattle.gates.specs.declared.Gate.{Gate}
-use Rattle.meaning.specs.Pattern.{has}
 use Rattle.cascades.specs.Control.{control-lines}
 use Rattle.cascades.specs.Expansion.{expansion}
 use Rattle.cascades.proofs.Signless.{positives}
 use Rattle.text.specs.declared.Kind.{Kind}
-use Rattle.text.specs.declared.Head.{Head}
-use Rattle.text.specs.declared.Refusal.the-variants.{Malformed, NoSuchLine, Crossed, Unsorted, TooWide, NoSpare, TooMany}
 use Rattle.text.specs.Text.{Form, lines, gate, mct, bytes}
-use Rattle.text.specs.Reading.{Got, got, none, bind, if-got, strip, num, tail, lines-body, not-body, powered-body, Line, in-form, unformed, whole, cut}
-use Rattle.text.specs.Judging.{Judged, turned-away, accepted, controls, target, belongs, most, any-from, rising, Rule, rule, first, head-rules, or-else}
+use Rattle.text.specs.Reading.{Got, got, none, bind, if-got, strip, num, tail, lines-body, not-body, powered-body, Line, whole, cut}
+use Rattle.text.specs.Judging.{Judged}
+use Rattle.text.proofs.JudgedBy.{judge-text}
 
 unfoldable pub control : List ℕ → Got (ℕ × Bool)
 control s = bind (num s) (λ c s′. if-got (strip (bytes " ") s′) (λ _ s″. got (c, true) s″) (bind (strip (bytes ")") s′) (λ _ s″. got (c, false) s″)))
@@ -51,32 +49,9 @@ gates n (lines m) = []
 gates n (gate g) = g ∷ []
 gates n (mct cs t) = expansion n (control-lines cs) t
 
-unfoldable pub rules : Kind → Head → ℕ → List Gate → Form → List Rule
-rules k h before c f =
-    rule Malformed (not (belongs k f))
-    ∷ rule NoSuchLine (any-from (h .lines) (target f ∷ controls f))
-    ∷ rule Crossed (has (target f) (controls f))
-    ∷ rule Unsorted (not (rising (controls f)))
-    ∷ rule TooWide (ltb 15 (length (controls f)))
-    ∷ rule NoSpare (leb 3 (length (controls f)) && eqb (h .lines) (length (controls f) + 1))
-    ∷ rule TooMany (ltb (most k) (before + 1) || ltb 4096 (length (c ++ gates (h .lines) f)))
-    ∷ []
-
-unfoldable pub judge-lines : Kind → Head → ℕ → List Gate → List Line → Judged
-judge-lines k h before c [] = accepted h c
-judge-lines k h before c (unformed ∷ ls) = turned-away Malformed (before + 2)
-judge-lines k h before c (in-form f ∷ ls) = or-else (first (rules k h before c f)) (before + 2) (judge-lines k h (before + 1) (c ++ gates (h .lines) f) ls)
-
-unfoldable pub judge-text : Kind → List Line → Judged
-judge-text k [] = turned-away Malformed 1
-judge-text k (unformed ∷ ls) = turned-away Malformed 1
-judge-text k (in-form (lines n) ∷ ls) = or-else (first (head-rules n)) 1 (judge-lines k (record { lines = n }) 0 [] ls)
-judge-text k (in-form (gate g) ∷ ls) = turned-away Malformed 1
-judge-text k (in-form (mct cs t) ∷ ls) = turned-away Malformed 1
-
 unfoldable pub read-all : List (List ℕ) → List Line
 read-all [] = []
 read-all (l ∷ ls) = read l ∷ read-all ls
 
 unfoldable pub judge : Kind → List ℕ → Judged
-judge k s = judge-text k (read-all (cut s))
+judge k s = judge-text gates k (read-all (cut s))

@@ -1,5 +1,5 @@
-//! The examples of document 01, negated controls, the order of circuits, and what is
-//! left in memory that a caller lends.
+//! The examples of document 01, negated controls, spare lines, the order of circuits,
+//! and what is left in memory that a caller lends.
 
 use std::cmp::Ordering;
 
@@ -89,6 +89,69 @@ fn quotes() {
         let gates = quoted(&text(lines)).unwrap();
         assert_eq!(gates.len(), count);
         assert_eq!(map(&text(lines)).unwrap().gates, gates);
+    }
+}
+
+/// Five controls: the gate borrows line 6, and of its smaller gates M1 line 7.
+const FIVE: &[u8] = include_bytes!("../../texts/five.cascade");
+const FIVE_MAPPED: [&str; 33] = [
+    "(lines 8)",
+    "(v 6 5)",
+    "(v 0 6)",
+    "(v 1 6)",
+    "(cn 0 1)",
+    "(vp 1 6)",
+    "(vp 6 5)",
+    "(v 7 6)",
+    "(cn 2 7)",
+    "(vp 7 6)",
+    "(v 3 7)",
+    "(v 4 7)",
+    "(cn 3 4)",
+    "(vp 4 7)",
+    "(v 7 6)",
+    "(cn 2 7)",
+    "(vp 7 6)",
+    "(v 6 5)",
+    "(vp 0 6)",
+    "(v 1 6)",
+    "(cn 0 1)",
+    "(vp 1 6)",
+    "(vp 6 5)",
+    "(v 7 6)",
+    "(cn 2 7)",
+    "(vp 7 6)",
+    "(vp 3 7)",
+    "(v 4 7)",
+    "(cn 3 4)",
+    "(vp 4 7)",
+    "(v 7 6)",
+    "(cn 2 7)",
+    "(vp 7 6)",
+];
+
+#[test]
+fn spare_lines() {
+    assert_eq!(FIVE, text(&["(lines 8)", "(mct (0 1 2 3 4) 5)"]));
+    let circuit = map(FIVE).unwrap();
+    assert_eq!(circuit.text, text(&FIVE_MAPPED));
+    assert_eq!(quoted(FIVE).as_ref(), Ok(&circuit.gates));
+    assert_eq!(reduce(&circuit.text), Ok(circuit));
+
+    // The expansion by document 02's order of spare lines, reduced.
+    let wide = "(mct (0 1 2 3 4 5 6 7 8 9 10 11 12 13 14) 15)";
+    let cases: [(&[&str], usize); 8] = [
+        (&["(lines 7)", "(mct (0 1 2 3 4) 5)"], 42),
+        (&["(lines 7)", "(mct (1 2 3 4 5) 0)"], 42),
+        (&["(lines 9)", "(mct (0 1 2 3 4 5) 6)"], 44),
+        (&["(lines 11)", "(mct (0 1 2 3 4 5 6 7 8) 9)"], 100),
+        (&["(lines 12)", "(mct (0 1 2 3 4 5 6 7 8) 9)"], 98),
+        (&["(lines 13)", "(mct (0 1 2 3 4 5 6 7 8) 9)"], 80),
+        (&["(lines 17)", wide], 250),
+        (&["(lines 18)", wide], 252),
+    ];
+    for (lines, count) in cases {
+        assert_eq!(quoted(&text(lines)).unwrap().len(), count, "{lines:?}");
     }
 }
 

@@ -148,6 +148,40 @@ pub fn merge(a: Gate, b: Gate) -> Option<Vec<Gate>> {
     }
 }
 
+/// The reduced list, by plain loops: two gates merge while every gate between them
+/// passes the first, until none do; then, again and again, the least of the gates
+/// that pass all those left before them is taken.
+pub fn reduced(gates: &[Gate]) -> Vec<Gate> {
+    let mut left = gates.to_vec();
+    while let Some((first, second, merged)) = (0..left.len()).find_map(|at| partner(&left, at)) {
+        left.remove(second);
+        left.splice(first..=first, merged);
+    }
+    let mut list = Vec::new();
+    while !left.is_empty() {
+        let free = |&at: &usize| left[..at].iter().all(|&other| pass(other, left[at]));
+        let least = (0..left.len())
+            .filter(free)
+            .min_by_key(|&at| left[at].record());
+        list.push(left.remove(least.unwrap_or_default()));
+    }
+    list
+}
+
+/// The place of a gate, that of the first later one that it merges with after
+/// passing all between, and what they become.
+fn partner(gates: &[Gate], at: usize) -> Option<(usize, usize, Vec<Gate>)> {
+    for (second, &other) in gates.iter().enumerate().skip(at + 1) {
+        if let Some(merged) = merge(gates[at], other) {
+            return Some((at, second, merged));
+        }
+        if !pass(gates[at], other) {
+            return None;
+        }
+    }
+    None
+}
+
 /// A circuit linked to the given one, after some random steps: passes, merges
 /// and, more often, merges backwards.
 pub fn linked(

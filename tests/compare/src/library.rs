@@ -2,7 +2,7 @@
 //! line, gates and bytes, every record and byte lent, and what stands beside
 //! them. What the papers say of an answer by themselves, of the answers of one text
 //! with several areas, and of negated controls (see `negated`), is asserted without
-//! the peer too.
+//! the peer too; what order 5 says of spares (see `spares`), beside it.
 
 use crate::built::{self, Drawn};
 use crate::circuit::{self, Gate};
@@ -10,6 +10,7 @@ use crate::known::{self, Known};
 use crate::negated;
 use crate::random::Random;
 use crate::report::{shown, Report};
+use crate::spares::{self, Size};
 use crate::subject::{call, holds, read_record, Area};
 use crate::texts::{self, Signs};
 use peer::{Job, Outcome, Program};
@@ -30,6 +31,12 @@ const FEWEST_SIGNED: [u64; 11] = [
 /// Random cascades with negated controls that are held to what the order says,
 /// without the peer.
 const NEGATED: usize = 2_000;
+/// What is run of the order of the spares.
+const SPARES: Size = Size {
+    placements: 12,
+    narrow_lines: 8,
+    judged: 1_200,
+};
 /// An answer area that has room for every answer, and one that has more.
 const LONGEST: [usize; 2] = [45_067, 50_000];
 
@@ -58,7 +65,7 @@ pub fn run() -> Report {
         numbers: [[0; 11]; CALLS.len()],
         signed: [0; 11],
     };
-    let parts: [(&str, Part); 13] = [
+    let parts: [(&str, Part); 15] = [
         ("answer areas of every length", Library::every_area),
         ("every single change of small texts", Library::every_change),
         ("valid texts", Library::valid),
@@ -68,6 +75,8 @@ pub fn run() -> Report {
         ("numbers of lines and gates at the limits", Library::limits),
         ("long texts", Library::long),
         ("negated controls, without the peer", Library::negated),
+        ("spares, beside the peer", Library::spares),
+        ("spares, answer areas", Library::spares_areas),
         ("linked circuits", Library::linked),
         ("long circuits of known lists", Library::built),
         ("long circuits redrawn by passes", Library::redrawn),
@@ -505,6 +514,26 @@ impl Library {
     fn negated(&mut self) {
         let mut ask = |program: Program, text: &[u8]| Ok(program_answer(program, text));
         negated::run(&mut self.report, &mut self.random, NEGATED, &mut ask);
+    }
+
+    /// What the order says of the spares, by the answers of the library, the peer and
+    /// an expansion and a reduction of its own.
+    fn spares(&mut self) {
+        let mut ask = |program: Program, text: &[u8]| Ok(program_answer(program, text));
+        spares::run(&mut self.report, &mut self.random, SPARES, &mut ask);
+    }
+
+    /// Gates of every number of controls on every number of lines, and two of them
+    /// together, with areas around their answers: rule 10 goes by the list.
+    fn spares_areas(&mut self) {
+        for (k, lines) in spares::shapes() {
+            let mcts = [0, 1].map(|_| {
+                let which = self.random.below(16);
+                spares::placed(&mut self.random, k, lines, which)
+            });
+            self.areas(Job::Map, &texts::cascade_text(lines, &mcts[..1]));
+            self.areas(Job::Map, &texts::cascade_text(lines, &mcts));
+        }
     }
 
     /// Two linked circuits get one list.

@@ -26,6 +26,7 @@ mod programs;
 mod random;
 mod report;
 mod small;
+mod spares;
 mod subject;
 mod texts;
 

@@ -167,7 +167,7 @@ impl Negated<'_> {
         let text = texts::cascade_text(lines, mcts);
         let got = (self.ask)(Program::Map, &text);
         self.quoted(&text, &got);
-        let expanded = expansion::of_all(mcts);
+        let expanded = expansion::of_all(lines, mcts);
         let count: usize = mcts.iter().map(Mct::gates).sum();
         assert!(count == expanded.len() && count <= 4_096);
         self.same(

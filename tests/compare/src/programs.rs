@@ -2,7 +2,7 @@
 //! standard output, nothing on standard error, exit status 0; the one over two
 //! texts through files (see `files`). Long circuits whose list the definitions
 //! give (see `built`), and what order 4 says of negated controls (see `negated`),
-//! are asserted without the peer.
+//! are asserted without the peer; what order 5 says of spares (see `spares`), beside it.
 
 use crate::built;
 use crate::circuit;
@@ -10,6 +10,7 @@ use crate::files;
 use crate::negated;
 use crate::random::Random;
 use crate::report::{shown, Report};
+use crate::spares::{self, Size};
 use crate::texts::{self, Signs};
 use peer::Program;
 use std::ffi::OsString;
@@ -29,6 +30,12 @@ const FEWEST_SIGNED: [u64; 10] = [150, 0, 0, 60, 20, 15, 15, 5, 3, 8];
 /// Random cascades with negated controls that are held to what the order says,
 /// without the peer.
 const NEGATED: usize = 120;
+/// What is run of the order of the spares.
+const SPARES: Size = Size {
+    placements: 1,
+    narrow_lines: 6,
+    judged: 150,
+};
 
 pub fn run(directory: &Path, scratch: &Path) -> Report {
     let mut report = Report::new("programs");
@@ -98,6 +105,7 @@ pub fn run(directory: &Path, scratch: &Path) -> Report {
         written.answer()
     };
     negated::run(&mut report, &mut random, NEGATED, &mut ask);
+    spares::run(&mut report, &mut random, SPARES, &mut ask);
     files::run(&mut report, &directory.join("compare"), scratch);
     report
 }

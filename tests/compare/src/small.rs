@@ -171,7 +171,7 @@ fn cascades(report: &mut Report) {
         for mcts in all {
             let negated = mcts.iter().any(|mct| mct.negated().next().is_some());
             signed += usize::from(negated);
-            let class = forward(&expansion::of_all(&mcts));
+            let class = forward(&expansion::of_all(lines, &mcts));
             reached += class.len();
             // The order of the records is that of the gates.
             let shortest = class

@@ -5,7 +5,7 @@ use crate::circuit::{self, Gate};
 use crate::random::Random;
 
 /// Gates of an expansion by number of controls.
-const EXPANSION: [usize; 16] = [
+pub const EXPANSION: [usize; 16] = [
     1, 1, 5, 16, 24, 46, 68, 84, 100, 144, 188, 232, 276, 308, 340, 372,
 ];
 
@@ -34,12 +34,21 @@ impl Mct {
         negated.map(|control| control.line)
     }
 
+    /// All lines below this number that it names neither as control nor as target,
+    /// rising.
+    pub fn unnamed(&self, lines: u8) -> Vec<u8> {
+        let named = self.lines();
+        (0..lines)
+            .filter(|line| *line != self.target && !named.contains(line))
+            .collect()
+    }
+
     /// The gates of its expansion, two of them NOTs for each negated control.
     pub fn gates(&self) -> usize {
         EXPANSION[self.controls.len()] + 2 * self.negated().count()
     }
 
-    fn set_signs(&mut self, random: &mut Random, signs: Signs) {
+    pub fn set_signs(&mut self, random: &mut Random, signs: Signs) {
         for control in &mut self.controls {
             control.negated = signs.next(random);
         }
@@ -108,7 +117,7 @@ pub fn cascade_text(lines: u8, mcts: &[Mct]) -> Vec<u8> {
 }
 
 /// The most controls that a gate on so many lines may have.
-fn most_controls(lines: u8) -> usize {
+pub fn most_controls(lines: u8) -> usize {
     match lines {
         1..=3 => usize::from(lines) - 1,
         4 => 2,

@@ -173,14 +173,14 @@ fn counts_of_the_expansion() {
         1, 1, 5, 16, 24, 46, 68, 84, 100, 144, 188, 232, 276, 308, 340, 372,
     ];
     for (k, count) in counts.into_iter().enumerate() {
-        let controls: Vec<u8> = (0..k as u8).collect();
-        let mut gates = Vec::new();
-        expansion::expand(&controls, 15, &mut gates);
-        assert_eq!(gates.len(), count);
-        let mut gates = Vec::new();
-        let controls: Vec<u8> = (0..k as u8).map(|c| 31 - c).rev().collect();
-        expansion::expand(&controls, 4, &mut gates);
-        assert_eq!(gates.len(), count);
+        // With the fewest lines and with all 32, the gate at either end of them.
+        let low: Vec<u8> = (0..k as u8).collect();
+        let high: Vec<u8> = low.iter().map(|c| 31 - c).rev().collect();
+        for (lines, controls, target) in [(17, &low, 15), (32, &low, 15), (32, &high, 4)] {
+            let mut gates = Vec::new();
+            expansion::expand_mct(lines, controls, &[], target, &mut gates);
+            assert_eq!(gates.len(), count);
+        }
     }
 }
 

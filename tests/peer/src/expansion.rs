@@ -1,20 +1,39 @@
 //! The expansion of one mct gate into NCV gates.
+//!
+//! Each gate has an ordered list of spares, of which one with three or more
+//! controls takes the first; the smaller gates that it is made from get what is
+//! left of the list and the lines that they do not name (001, section III.B).
 
 use crate::gate::Gate;
 
-/// Appends the expansion of the gate on `target` with these controls, of which
-/// some are negated: a NOT on each negated line before the expansion of the gate
-/// without signs, and again after it. Both rise strictly.
-pub fn expand_negated(controls: &[u8], negated: &[u8], target: u8, gates: &mut Vec<Gate>) {
+/// The most lines of a circuit, and so of any list of lines.
+const MOST_LINES: usize = 32;
+
+/// Appends the expansion of an mct gate on so many lines, on `target` with these
+/// controls, of which some are negated: a NOT on each negated line before the
+/// expansion of the gate without signs, and again after it. Controls and negated
+/// ones rise strictly, and leave a spare line if there are three or more.
+pub fn expand_mct(lines: u8, controls: &[u8], negated: &[u8], target: u8, gates: &mut Vec<Gate>) {
     let nots = || negated.iter().map(|&line| Gate::not(line));
     gates.extend(nots());
-    expand(controls, target, gates);
+    expand(controls, target, &unnamed(lines, controls, target), gates);
     gates.extend(nots());
 }
 
-/// Appends the expansion of the gate on `target` with these controls, which
-/// rise strictly and leave a spare line if there are three or more.
-pub fn expand(controls: &[u8], target: u8, gates: &mut Vec<Gate>) {
+/// The spares of an mct gate: all lines that it names neither as control nor as
+/// target, rising.
+pub fn unnamed(lines: u8, controls: &[u8], target: u8) -> Vec<u8> {
+    let named = controls
+        .iter()
+        .fold(1u32 << target, |named, &control| named | 1 << control);
+    let mut unnamed = Vec::with_capacity(MOST_LINES);
+    unnamed.extend((0..lines).filter(|&line| named >> line & 1 == 0));
+    unnamed
+}
+
+/// Appends the expansion of the gate on `target` with these controls and these
+/// spares, of which there is one at least if there are three controls or more.
+pub fn expand(controls: &[u8], target: u8, spares: &[u8], gates: &mut Vec<Gate>) {
     match *controls {
         [] => gates.push(Gate::not(target)),
         [a] => gates.push(Gate::powered(2, a, target)),
@@ -26,22 +45,38 @@ pub fn expand(controls: &[u8], target: u8, gates: &mut Vec<Gate>) {
             Gate::powered(1, a, target),
         ]),
         _ => {
-            let spare = spare_line(controls, target);
-            let (first, others) = controls.split_at(controls.len() / 2);
-            gates.push(Gate::powered(1, spare, target));
+            let (&s, remaining) = spares.split_first().expect("a spare line");
+            let (c0, c1) = controls.split_at(controls.len() / 2);
+            let mut room = [0; MOST_LINES];
+            gates.push(Gate::powered(1, s, target));
             let m0 = gates.len();
-            expand(first, spare, gates);
+            let m0_spares = joined([&[target], remaining, c1], &mut room);
+            expand(c0, s, m0_spares, gates);
             let m0 = m0..gates.len();
-            gates.push(Gate::powered(3, spare, target));
+            gates.push(Gate::powered(3, s, target));
             let m1 = gates.len();
-            expand(others, spare, gates);
+            let m1_spares = joined([remaining, c0], &mut room);
+            expand(c1, s, m1_spares, gates);
             let m1 = m1..gates.len();
-            gates.push(Gate::powered(1, spare, target));
+            gates.push(Gate::powered(1, s, target));
             append_undone(m0, gates);
-            gates.push(Gate::powered(3, spare, target));
+            gates.push(Gate::powered(3, s, target));
             append_undone(m1, gates);
         }
     }
+}
+
+/// Lists of different lines, one after the other, in the room lent for them.
+fn joined<'a, const LISTS: usize>(
+    lists: [&[u8]; LISTS],
+    room: &'a mut [u8; MOST_LINES],
+) -> &'a [u8] {
+    let mut count = 0;
+    for list in lists {
+        room[count..count + list.len()].copy_from_slice(list);
+        count += list.len();
+    }
+    &room[..count]
 }
 
 /// Appends a stretch of the gates reversed, with v and vp exchanged.
@@ -50,12 +85,4 @@ fn append_undone(stretch: std::ops::Range<usize>, gates: &mut Vec<Gate>) {
         let undone = gates[place].undone();
         gates.push(undone);
     }
-}
-
-/// The lowest line that the gate names neither as control nor as target.
-fn spare_line(controls: &[u8], target: u8) -> u8 {
-    let named = controls
-        .iter()
-        .fold(1u64 << target, |named, &c| named | 1 << c);
-    (!named).trailing_zeros() as u8
 }

@@ -264,3 +264,5 @@ fn whole_text(source: impl Read) -> io::Result<Vec<u8>> {
 mod examples;
 #[cfg(test)]
 mod negated;
+#[cfg(test)]
+mod spares;

@@ -98,7 +98,7 @@ fn read_mct(
     if mcts_before >= MOST_MCTS {
         return Err(TOO_MANY);
     }
-    expansion::expand_negated(controls, negated, target, &mut circuit.gates);
+    expansion::expand_mct(lines, controls, negated, target, &mut circuit.gates);
     if circuit.gates.len() > MOST_GATES {
         return Err(TOO_MANY);
     }

@@ -1,0 +1,34 @@
+-- What the programs over one text write if texts are judged in another way: the definition of now, with the judging of a text for a parameter; and
+-- that they write still what they wrote before orders 4 and 5. Assumes nothing.
+use mathlib.Core.Path.{_≡_}
+use mathlib.Core.List.{List}
+use Prim.Native.Nat.{ℕ}
+use Rattle.text.specs.declared.Kind.{Kind}
+use Rattle.text.specs.Judging.{Judged}
+use Rattle.text.specs.declared.Kind.the-variants.{Cascade}
+use Rattle.text.proofs.Unsigned as unsigned
+use Rattle.text.proofs.Signless.{Signless}
+use Rattle.text.proofs.Lowest as lowest
+use Rattle.text.proofs.Lowest.{FewControls}
+use Rattle.jobs.specs.Jobs.{takes}
+use Rattle.jobs.proofs.JudgedBy.{judged-text, Unchanged, AsNow, text-as-now}
+use Rattle.jobs.proofs.Signless.{signless-as-now}
+use Rattle.jobs.proofs.Lowest.{lowest-as-now}
+use Rattle.console.specs.declared.Program.{Program}
+use Rattle.console.specs.Output as now
+use Rattle.console.specs.Output.{job-of, output-of, PrintsBy}
+
+unfoldable pub Prints : (Kind → List ℕ → Judged) → Program → List ℕ → List ℕ → Type 0
+Prints judge p s w = PrintsBy (output-of p) (judged-text judge (takes (job-of p)) s 4096) w
+
+prints-as-now : (judge : Kind → List ℕ → Judged) (Same : List ℕ → Type 0) → AsNow judge Same → (p : Program) (s w : List ℕ) → Unchanged Same (job-of p) s → now.Prints p s w ≡ Prints judge p s w
+unfolding now.Prints Prints
+prints-as-now judge Same a p s w u = rw (text-as-now judge Same a (job-of p) s 4096 u)
+
+-- before controls had signs: map and quote of every text without a minus sign, reduce of every text
+pub signless-prints : (p : Program) (s w : List ℕ) → Unchanged Signless (job-of p) s → now.Prints p s w ≡ Prints unsigned.judge p s w
+signless-prints = prints-as-now unsigned.judge Signless signless-as-now
+
+-- when spare lines were the lowest ones: map and quote of every text in which no gate has more than four controls, reduce of every text
+pub few-controls-print : (p : Program) (s w : List ℕ) → Unchanged (FewControls Cascade) (job-of p) s → now.Prints p s w ≡ Prints lowest.judge p s w
+few-controls-print = prints-as-now lowest.judge (FewControls Cascade) lowest-as-now
