@@ -75,9 +75,11 @@ enum { YILGORZA_LESS = 0, YILGORZA_EQUAL = 1, YILGORZA_GREATER = 2 };
    other when its line is 1. Numbers 4 to 8 read the lines, whatever the signs.
 
    Number 1 is tried first, then 2. Then the lines of the text are taken in order,
-   and each is tried against 3 to 9 in that order; the first line that fails is
-   returned. Then comes 10. Of several texts each is tried against 1 to 9, against 2
-   with its own list, before the next one is looked at. */
+   and each is tried against 3, 4, 5, 6, 8, 7 and 9, in this order; the first line
+   that fails is returned. So a line that passes 3 to 6 and has 16 or more controls
+   gets 8 if n = k + 1, and 7 if n is larger. Then comes 10. Of several texts each is
+   tried against 1 to 9, against 2 with its own list, before the next one is looked
+   at. */
 enum {
     YILGORZA_SUCCESS = 0,
     YILGORZA_OVERLONG = 1,     /* the text has more than 60,000 bytes */
@@ -90,8 +92,9 @@ enum {
                                   32 */
     YILGORZA_CROSSED = 5,      /* a control equals the target */
     YILGORZA_UNSORTED = 6,     /* the controls do not strictly rise by line */
-    YILGORZA_TOO_WIDE = 7,     /* more than 15 controls */
-    YILGORZA_NO_SPARE = 8,     /* three or more controls, and n = k + 1 */
+    YILGORZA_TOO_WIDE = 7,     /* more than 15 controls; tried after 8 */
+    YILGORZA_NO_SPARE = 8,     /* three or more controls, and n = k + 1; tried
+                                  before 7 */
     YILGORZA_TOO_MANY = 9,     /* the 257th mct, an expansion past 4,096 gates with
                                   this line, two NOTs for each negated control
                                   counted, or the 4,097th gate of a circuit */

@@ -27,6 +27,7 @@ from texts import (
     REFUSALS,
     REPOSITORY,
     RISING,
+    SIXTEEN,
     TOFFOLI,
     TOFFOLI_GATES,
     TOFFOLI_MAPPED,
@@ -138,6 +139,20 @@ class Module(unittest.TestCase):
                         job(text)
                     self.assertEqual(caught.exception.number, number)
                     self.assertEqual(caught.exception.line, line)
+
+    def test_a_gate_with_16_controls_from_smaller_ones(self):
+        # The four gates of docs/USING.md do what it does, and leave line 17 as it was,
+        # from every pattern in which at most two of its controls are 0.
+        page = (REPOSITORY / "docs/USING.md").read_text("utf-8")
+        shown = page.partition("together they are quoted 296:\n\n")[2]
+        shown = shown.partition("\n\n")[0]
+        four = "\n".join(line[4:] for line in shown.splitlines())
+        self.assertEqual(four.count("(mct ("), 4)
+        self.assertEqual(yilgorza.quote(typed("(lines 18)", four)).count, 296)
+        for count, rest in itertools.product(range(3), range(4)):
+            for low in itertools.combinations(range(16), count):
+                start = (rest << 16) + 0xFFFF - sum(1 << line for line in low)
+                self.assertEqual(flipped(four, start), flipped(SIXTEEN, start), start)
 
     def test_comparisons(self):
         for (first, text), (second, other) in itertools.product(DRAWN, DRAWN):

@@ -73,6 +73,9 @@ WIDE = "(mct (0 1 2 3 4 5 6 7 8 9 10 11 12 13 14) 15)"
 WIDE_1 = WIDE.replace(" 14)", " -14)")
 WIDE_2 = WIDE_1.replace("(0 ", "(-0 ")
 WIDE_3 = WIDE_2.replace(" 7 ", " -7 ")
+# A gate with 16 controls, without signs and with some: it names 17 lines.
+SIXTEEN = "(mct (0 1 2 3 4 5 6 7 8 9 10 11 12 13 14 15) 16)"
+SIXTEEN_NEGATED = "(mct (-0 1 2 3 4 5 6 7 8 9 10 11 12 13 14 -15) 16)"
 
 # Cascades with negated controls, and what they are mapped to.
 NEGATED = [
@@ -227,12 +230,10 @@ REFUSALS = [
     (typed("(lines 2)", "(mct (0) 1)", "(mct (0) 2)"), Number.NO_SUCH_LINE, 3),
     (typed("(lines 2)", "(mct (0) 0)"), Number.CROSSED, 2),
     (typed("(lines 3)", "(mct (1 0) 2)"), Number.UNSORTED, 2),
-    (
-        typed("(lines 17)", "(mct (0 1 2 3 4 5 6 7 8 9 10 11 12 13 14 15) 16)"),
-        Number.TOO_WIDE,
-        2,
-    ),
     (typed("(lines 4)", "(mct (0 1 2) 3)"), Number.NO_SPARE, 2),
+    # 16 controls break rule 7, and on 17 lines rule 8 too, which is tried before it.
+    (typed("(lines 17)", SIXTEEN), Number.NO_SPARE, 2),
+    (typed("(lines 18)", SIXTEEN), Number.TOO_WIDE, 2),
     (typed("(lines 17)", *[WIDE] * 12), Number.TOO_MANY, 13),
     # A sign is one minus directly before a control, and stands nowhere else.
     (typed("(lines -2)", "(mct (-0) 1)"), Number.MALFORMED, 1),
@@ -263,12 +264,9 @@ REFUSALS = [
     (typed("(lines 5)", "(mct (-3 3) 4)"), Number.UNSORTED, 2),
     (typed("(lines 5)", "(mct (-3 -3) 4)"), Number.UNSORTED, 2),
     (typed("(lines 5)", "(mct (-3 2) 4)"), Number.UNSORTED, 2),
-    (
-        typed("(lines 17)", "(mct (-0 1 2 3 4 5 6 7 8 9 10 11 12 13 14 -15) 16)"),
-        Number.TOO_WIDE,
-        2,
-    ),
     (typed("(lines 4)", "(mct (-0 1 -2) 3)"), Number.NO_SPARE, 2),
+    (typed("(lines 17)", SIXTEEN_NEGATED), Number.NO_SPARE, 2),
+    (typed("(lines 18)", SIXTEEN_NEGATED), Number.TOO_WIDE, 2),
     (typed("(lines 17)", WIDE_3, *[WIDE] * 10), Number.TOO_MANY, 12),
     (typed("(lines 17)", *[WIDE] * 9, WIDE_1, WIDE_2), Number.TOO_MANY, 12),
 ]

@@ -4,7 +4,8 @@
    checked. Map is also called with an empty answer area, and has to count the same
    gates and give the same list. What reduce gives for either of two texts says all
    that compare has to give for both. A cascade with minus signs is also given without
-   them, and with a gate without controls for each NOT that they stand for.
+   them, and with a gate without controls for each NOT that they stand for. What rules 4
+   to 8 say of each line of a cascade is worked out here too.
 
    Memory. The archive is plain machine code, in which AddressSanitizer checks
    nothing but the memory functions of the C library. So the areas stand
@@ -62,6 +63,8 @@ static void fail(enum call call, const char *what)
 
 /* How many cascades with a minus sign were accepted. */
 static unsigned long signed_cascades;
+/* How many cascades were refused at a gate of 16 or more controls, by 8 and by 7. */
+static unsigned long wide_no_spare, wide_with_spare;
 
 /* ---- Guidance ---- */
 
@@ -111,6 +114,8 @@ static void tell_blocks(void)
 {
     fprintf(stderr, "fuzz: %u of %u basic blocks of the archive reached\n", blocks_reached, blocks);
     fprintf(stderr, "fuzz: %lu cascades with a minus sign accepted\n", signed_cascades);
+    fprintf(stderr, "fuzz: %lu cascades refused by 8 at 16 or more controls, %lu by 7\n", wide_no_spare,
+            wide_with_spare);
 }
 
 int LLVMFuzzerInitialize(int *argc, char ***argv)
@@ -384,6 +389,77 @@ static int same_list(const struct answer *a, const struct answer *b)
     return a->gates == b->gates && !memcmp(a->list, b->list, a->gates * sizeof(uint16_t));
 }
 
+/* ---- Rules 4 to 8 ---- */
+
+/* The length of so many lines of a text. */
+static size_t length_of(const uint8_t *text, uint64_t lines)
+{
+    size_t length = 0;
+    for (; lines; length++)
+        lines -= text[length] == '\n';
+    return length;
+}
+
+static int is_digit(uint8_t byte)
+{
+    return byte >= '0' && byte <= '9';
+}
+
+/* What these rules say of an mct line in form, 8 before 7, or 0; and its number of
+   controls. No number has three digits. */
+static uint64_t refused_by(const uint8_t *line, size_t size, unsigned lines, unsigned *controls)
+{
+    int is_control[100] = { 0 }, inside = 1, foreign = 0, crossed = 0, unsorted = 0;
+    unsigned before = 0, k = 0;
+    for (size_t i = 0; i < size; i++) {
+        inside &= line[i] != ')';
+        if (!is_digit(line[i]))
+            continue;
+        unsigned number = line[i] - '0';
+        if (i + 1 < size && is_digit(line[i + 1]))
+            number = 10 * number + line[++i] - '0';
+        foreign |= number >= lines;
+        if (inside) {
+            unsorted |= k && number <= before;
+            is_control[number] = 1;
+            before = number;
+            k++;
+        } else {
+            crossed |= is_control[number];
+        }
+    }
+    *controls = k;
+    return foreign ? 4 : crossed ? 5 : unsorted ? 6 : k >= 3 && lines == k + 1 ? 8 : k > 15 ? 7 : 0;
+}
+
+/* Checks the lines of a cascade up to the one that is refused. They are in form, but for
+   that one if it is refused by 3; rule 9 comes last. */
+static void check_rules(const uint8_t *text, size_t length, const struct answer *mapped)
+{
+    uint64_t number = mapped->number, last = mapped->line, line = 2;
+    if (last == 1 && number > 4)
+        fail(MAP, "line 1 is refused like a gate");
+    if (number == 1 || number == 2 || last == 1)
+        return;
+    unsigned lines = lines_of(text), controls;
+    size_t start = length_of(text, 1), size;
+    for (; start < length && (!last || line <= last); start += size, line++) {
+        if (line == last && number == 3)
+            return;
+        const uint8_t *end = memchr(text + start, '\n', length - start);
+        if (!end)
+            fail(MAP, "a line without its end");
+        size = (size_t)(end - text) + 1 - start;
+        uint64_t due = refused_by(text + start, size, lines, &controls);
+        if (due != (line == last && number < 9 ? number : 0))
+            fail(MAP, "rules 4 to 8");
+        wide_no_spare += due == 8 && controls > 15;
+        wide_with_spare += due == 7;
+    }
+    if (last && line <= last)
+        fail(MAP, "a refused line that is not there");
+}
+
 /* ---- Minus signs ---- */
 
 /* More than a cascade of 256 gates of 15 controls, each with its NOTs, has. */
@@ -402,11 +478,6 @@ static size_t put_without_signs(uint8_t *to, const uint8_t *text, size_t length)
         if (text[i] != '-')
             to[end++] = text[i];
     return end;
-}
-
-static int is_digit(uint8_t byte)
-{
-    return byte >= '0' && byte <= '9';
 }
 
 /* Whether the minus sign at a place of an accepted line stands where one may:
@@ -451,15 +522,6 @@ static size_t put_with_nots(uint8_t *to, const uint8_t *text, size_t length)
         end += put_nots(to + end, line, size);
     }
     return end;
-}
-
-/* The length of so many lines of a text. */
-static size_t length_of(const uint8_t *text, uint64_t lines)
-{
-    size_t length = 0;
-    for (; lines; length++)
-        lines -= text[length] == '\n';
-    return length;
 }
 
 /* Checks a text with a minus sign against what map gives for others, all with an
@@ -675,6 +737,7 @@ static void jobs_over_one_text(const uint8_t *choices, const uint8_t *text, size
         fail(MAP_EMPTY_AREA, "with an area it refuses otherwise");
     if (mapped->number == 0 && !same_list(mapped, &empty))
         fail(MAP_EMPTY_AREA, "with an area it gives another list");
+    check_rules(text, length, &empty);
     if (has_sign(text, length))
         check_signs(text, length, list_length, at_front, junk, &empty);
 }
@@ -726,7 +789,7 @@ int LLVMFuzzerTestOneInput(const uint8_t *data, size_t size)
 #ifdef REPLAY
 
 /* The corpus has more of them than that. */
-enum { FEWEST_SIGNED = 5 };
+enum { FEWEST_SIGNED = 5, FEWEST_WIDE = 3 };
 
 int main(int argc, char **argv)
 {
@@ -743,6 +806,11 @@ int main(int argc, char **argv)
     }
     if (signed_cascades < FEWEST_SIGNED) {
         fprintf(stderr, "fuzz: FAILED: only %lu cascades with a minus sign were accepted\n", signed_cascades);
+        return 1;
+    }
+    if (wide_no_spare < FEWEST_WIDE || wide_with_spare < FEWEST_WIDE) {
+        fprintf(stderr, "fuzz: FAILED: only %lu and %lu cascades were refused at 16 or more controls\n",
+                wide_no_spare, wide_with_spare);
         return 1;
     }
     printf("%d passed, 0 failed\n", argc - 1);

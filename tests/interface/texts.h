@@ -22,7 +22,7 @@ struct text {
     size_t gates;
 };
 
-enum { TEXTS = 31 };
+enum { TEXTS = 34 };
 static struct text texts[TEXTS];
 
 static void add(struct text *t, const char *words) {
@@ -148,6 +148,14 @@ static void make_texts(void) {
     add(text(29, "a sign at the target", 3, 2, 3, 2), "(lines 2)\n(mct (0) -1)\n");
     add(text(30, "a sign in a circuit", 3, 2, 3, 3),
         "(lines 2)\n(cn 0 1)\n(cn -0 1)\n");
+    /* Too wide, and too wide without a spare line, which is tried first. */
+    add(text(31, "16 controls on 18 lines", 7, 2, 3, 2),
+        "(lines 18)\n(mct (0 1 2 3 4 5 6 7 8 9 10 11 12 13 14 15) 16)\n");
+    add(text(32, "16 controls on 17 lines", 8, 2, 3, 2),
+        "(lines 17)\n(mct (0 1 2 3 4 5 6 7 8 9 10 11 12 13 14 15) 16)\n");
+    add(text(33, "31 controls on 32 lines", 8, 2, 3, 2),
+        "(lines 32)\n(mct (0 1 2 3 4 5 6 7 8 9 10 11 12 13 14 15 16 17 18 19 20 21 22 23 "
+        "24 25 26 27 28 29 30) 31)\n");
 }
 
 /* The jobs over one text with one signature, and map for the quote only, which is

@@ -1,5 +1,5 @@
 -- What compare says if texts are judged in another way: the definitions of now, with the judging of a text for a parameter; and that it says still,
--- of every two texts, what it said before orders 4 and 5. Assumes nothing.
+-- of every two texts, what it said before orders 4, 5 and 6. Assumes nothing.
 use Prim.Native.Nat.{ℕ}
 use mathlib.Core.Path.{_≡_}
 use mathlib.Core.List.{List, [], _∷_}
@@ -12,6 +12,7 @@ use Rattle.text.specs.Judging.{Judged}
 use Rattle.text.proofs.Unsigned as unsigned
 use Rattle.text.proofs.Signless as signless
 use Rattle.text.proofs.Lowest as lowest
+use Rattle.text.proofs.WideFirst as wide-first
 use Rattle.habits.specs.Habits as habits
 use Rattle.habits.specs.Habits.{Judgement, fine, _then_, Circuit, taken, told, Exit, Says}
 use Rattle.comparison.specs.Compare as now
@@ -42,3 +43,7 @@ signless-compare = compare-same unsigned.judge signless.circuits-before
 -- when spare lines were the lowest ones
 pub lowest-compare : (s : List ℕ) (l : List Gate) (t : List ℕ) (m : List Gate) (x : Exit) → now.Compare s l t m x ≡ Compare lowest.judge s l t m x
 lowest-compare = compare-same lowest.judge lowest.circuits-before
+
+-- when rule 7 was tried before rule 8
+pub wide-first-compare : (s : List ℕ) (l : List Gate) (t : List ℕ) (m : List Gate) (x : Exit) → now.Compare s l t m x ≡ Compare wide-first.judge s l t m x
+wide-first-compare = compare-same wide-first.judge wide-first.circuits-before

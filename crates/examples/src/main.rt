@@ -101,7 +101,8 @@ fn try_overlong() {
     try_jobs(b"60,001 bytes", &text, 1, 0);
 }
 
-fn main() {
+// Gates of 15 controls on 17 lines: eleven of them and twelve, and eleven with negated controls.
+fn try_fifteen() {
     try_gates(
         b"eleven gates of 15 controls on 17 lines",
         b"(lines 17)\n",
@@ -130,12 +131,27 @@ fn main() {
         9,
         12,
     );
+}
+
+// A gate of 16 controls, too wide on any number of lines. On 17 lines it has no spare line either, and this is tried first.
+fn try_sixteen() {
     try_cascade(
         b"16 rising controls on 17 lines",
         b"(lines 17)\n(mct (0 1 2 3 4 5 6 7 8 9 10 11 12 13 14 15) 16)\n",
+        8,
+        2,
+    );
+    try_cascade(
+        b"16 rising controls on 18 lines",
+        b"(lines 18)\n(mct (0 1 2 3 4 5 6 7 8 9 10 11 12 13 14 15) 16)\n",
         7,
         2,
     );
+}
+
+fn main() {
+    try_fifteen();
+    try_sixteen();
     try_jobs(b"header 32", b"(lines 32)\n", 0, 0);
     try_jobs(b"header 33", b"(lines 33)\n", 4, 1);
     try_overlong();

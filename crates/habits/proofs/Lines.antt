@@ -64,7 +64,7 @@ unfolding rules
 rules-of-line k h before c f = first-in OfLine (rules k h before c f)
     (λ _. (omega arith, omega arith), (λ _. (omega arith, omega arith), (λ _. (omega arith, omega arith), (λ _. (omega arith, omega arith), (λ _. (omega arith, omega arith), (λ _. (omega arith, omega arith), (λ _. (omega arith, omega arith), tt)))))))
 
--- "each whole line tried against 3 to 9 in that order; the first failing line, counted from 1, is returned"
+-- "the first failing line, counted from 1, is returned"
 pub judge-by-line : (k : Kind) (s : List ℕ) {r : Refusal} {l : ℕ} → judge k s ≡ turned-away r l → (3 ≤ number-of r) × (number-of r ≤ 9) × (1 ≤ l)
 judge-by-line k s e = let z = judge-in k OfLine (omega arith, omega arith) (omega arith, omega arith) (rules-of-line k) s e in (z .0 .0, z .0 .1, z .1)
 

@@ -33,7 +33,8 @@ pub data Refuses (k : Kind) (s rooms : List ℕ) : ℕ → ℕ → Type 0 where
   overlong : 60000 < length s → Refuses k s rooms 1 0
   -- "gate list under 4,096 records"
   short-list : length s ≤ 60000 → (Every (λ records. 4096 ≤ records) rooms → ⊥) → Refuses k s rooms 2 0
-  -- "Then the lines in order, each whole line tried against 3 to 9 in that order; the first failing line, counted from 1, is returned"
+  -- "Then the lines in order, each whole line tried against 3 to 9 in that order; the first failing line, counted from 1, is returned"; document 02:
+  -- "8 is now tried before 7"
   failing-line : (r : Refusal) (l : ℕ) → Sized s rooms → judge k s ≡ turned-away r l → 3 ≤ number-of r → number-of r ≤ 9 → 1 ≤ l → Refuses k s rooms (number-of r) l
 
 -- a text that no rule refuses, with its head and its circuit

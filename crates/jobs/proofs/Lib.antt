@@ -8,6 +8,7 @@ pub mod Before
 pub mod JudgedBy
 pub mod Signless
 pub mod Lowest
+pub mod WideFirst
 pub mod Placement
 pub mod Table
 pub mod Handed

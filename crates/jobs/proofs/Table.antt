@@ -1,4 +1,4 @@
--- The starred examples hold, and those of negated controls and of spare lines. Assumes nothing.
+-- The starred examples hold, and those of negated controls, of spare lines and of rules 7 and 8. Assumes nothing.
 use mathlib.Core.Path.{_≡_, refl, sym, ap, _∙_}
 use mathlib.Core.Bool.{Bool, true, false, not, _&&_, true≢false}
 use mathlib.Core.List.{List, [], _∷_}
@@ -30,7 +30,7 @@ use Rattle.text.specs.Judging as J
 use Rattle.text.specs.declared.Kind.{Kind}
 use Rattle.text.specs.Judging.{Judged, turned-away, accepted, belongs, most, any-from, rising, first, head-rules, rules, or-else, judge-lines, judge-text, read-all, judge}
 use Rattle.jobs.specs.Jobs.{Job, mapping, reducing, takes, wanted, Entry, Exit, judged, written, put-out, answered, Says}
-use Rattle.jobs.specs.Examples.{typed, Answer, text, quote, away, Row, gives, expands, Shows, Gets, Correct, table, signed-table, published-table}
+use Rattle.jobs.specs.Examples.{typed, Answer, text, quote, away, Row, gives, expands, Shows, Gets, Correct, table, signed-table, published-table, wide-table}
 use Rattle.jobs.proofs.Habits.{judged-sized}
 use Rattle.jobs.proofs.One.{judged-accepted, passed-valid, is-nf}
 use Rattle.jobs.proofs.Demands.{text-wanted, count-wanted, says-accepted, says-turned-away, area-front, refusal-is}
@@ -126,21 +126,28 @@ unfolding tests
 tests-correct [] t = tt
 tests-correct (r ∷ rs) t = let u = both (test r) (tests rs) t in (test-correct r (u .0), tests-correct rs (u .1))
 
-pass : (tests table && (tests signed-table && tests published-table)) ≡ true
+pass : (tests table && (tests signed-table && (tests published-table && tests wide-table))) ≡ true
 unfolding answers fits test tests typed takes has inverse inverted _⨾_ joined lines-outside mct-spares expand expand-with expansion control-lines negated-lines nots between-nots expansion± strip second num tail pair R.signed R.control R.controls list many lines-body not-body mct-body powered-body parse whole read longer cut J.controls J.target J.gates belongs most any-from rising first head-rules rules or-else judge-lines judge-text read-all judge C.target slot power powered same-dec less-dec passes-dec merged free-dec turn-of turn place push nf ℕ-discrete decLt digits spaced one two word render rendered circuit-text
 pass = refl
 
-pass-orders : (tests signed-table && tests published-table) ≡ true
-pass-orders = both (tests table) (tests signed-table && tests published-table) pass .1
+pass-from-4 : (tests signed-table && (tests published-table && tests wide-table)) ≡ true
+pass-from-4 = both (tests table) _ pass .1
+
+pass-from-5 : (tests published-table && tests wide-table) ≡ true
+pass-from-5 = both (tests signed-table) _ pass-from-4 .1
 
 -- document 01's starred examples
 pub examples : Every Correct table
-examples = tests-correct table (both (tests table) (tests signed-table && tests published-table) pass .0)
+examples = tests-correct table (both (tests table) _ pass .0)
 
 -- those of order 4
 pub signed-examples : Every Correct signed-table
-signed-examples = tests-correct signed-table (both (tests signed-table) (tests published-table) pass-orders .0)
+signed-examples = tests-correct signed-table (both (tests signed-table) _ pass-from-4 .0)
 
 -- those of order 5
 pub published-examples : Every Correct published-table
-published-examples = tests-correct published-table (both (tests signed-table) (tests published-table) pass-orders .1)
+published-examples = tests-correct published-table (both (tests published-table) _ pass-from-5 .0)
+
+-- those of order 6
+pub wide-examples : Every Correct wide-table
+wide-examples = tests-correct wide-table (both (tests published-table) _ pass-from-5 .1)

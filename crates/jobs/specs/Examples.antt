@@ -1,4 +1,5 @@
--- Document 01's starred examples, as one table, and those of negated controls and of spare lines (document 02, orders 4 and 5). Assumes nothing.
+-- Document 01's starred examples, as one table, and those of negated controls, of spare lines and of rules 7 and 8 (document 02, orders 4 to 6).
+-- Assumes nothing.
 use Prim.Native.Nat.{ℕ, _≤_}
 use Prim.Native.String.{String}
 use mathlib.Core.Path.{_≡_}
@@ -75,4 +76,11 @@ published-table =
     ∷ gives mapping ("(lines 8)" ∷ "(mct (0 1 2 3 4) 5)" ∷ []) (quote 32)
     ∷ gives mapping ("(lines 7)" ∷ "(mct (0 1 2 3 4) 5)" ∷ []) (quote 42)
     ∷ gives mapping ("(lines 6)" ∷ "(mct (0 1 2 3 4) 5)" ∷ []) (away 8 2)
+    ∷ []
+
+-- 8 is tried before 7: "Document 01's example of 16 controls on 17 lines becomes 8"; with a line more the gate has a spare one, and is too wide
+abbrev pub wide-table : List Row
+wide-table =
+    gives mapping ("(lines 17)" ∷ "(mct (0 1 2 3 4 5 6 7 8 9 10 11 12 13 14 15) 16)" ∷ []) (away 8 2)
+    ∷ gives mapping ("(lines 18)" ∷ "(mct (0 1 2 3 4 5 6 7 8 9 10 11 12 13 14 15) 16)" ∷ []) (away 7 2)
     ∷ []

@@ -85,7 +85,7 @@ module _ (h : Head) (cs : List Control) (t before : ℕ) (c : List Gate) where
       rw (le-leb (length ls) 15 k, e)
 
   pub mct-rules : {outside crossed : Bool} → outside ≡ any-from (h .lines) (t ∷ ls) → (outside ≡ false → crossed ≡ has t ls)
-      → tried outside crossed (rising ls) (ltb 15 (length ls)) (leb 3 (length ls) && eqb (h .lines) (length ls + 1)) counted ≡ first (rules Cascade h before c (mct cs t))
+      → tried outside crossed (rising ls) (leb 3 (length ls) && eqb (h .lines) (length ls + 1)) (ltb 15 (length ls)) counted ≡ first (rules Cascade h before c (mct cs t))
   unfolding rules belongs controls target gates most
   mct-rules {outside} {crossed} o x =
       after NoSuchLine outside _ _ (λ p. ap (λ (b : Bool). first (rule Crossed b ∷ later counted)) (x p) ∙ after Crossed (has t ls) _ _ (λ _. unsorted))
@@ -93,16 +93,16 @@ module _ (h : Head) (cs : List Control) (t before : ℕ) (c : List Gate) where
       ∙ unfold first in refl
     where
       later : Bool → List Rule
-      later many = rule Unsorted (not (rising ls)) ∷ rule TooWide (ltb 15 (length ls)) ∷ rule NoSpare (leb 3 (length ls) && eqb (h .lines) (length ls + 1)) ∷ rule TooMany many ∷ []
+      later many = rule Unsorted (not (rising ls)) ∷ rule NoSpare (leb 3 (length ls) && eqb (h .lines) (length ls + 1)) ∷ rule TooWide (ltb 15 (length ls)) ∷ rule TooMany many ∷ []
 
       unsorted : first (later counted) ≡ first (later made)
-      unsorted = after Unsorted (not (rising ls)) _ _ (λ _. after TooWide (ltb 15 (length ls)) _ _ (λ w.
-          ap (λ (b : Bool). first (rule NoSpare (leb 3 (length ls) && eqb (h .lines) (length ls + 1)) ∷ rule TooMany b ∷ [])) (over-is w)))
+      unsorted = after Unsorted (not (rising ls)) _ _ (λ _. after NoSpare (leb 3 (length ls) && eqb (h .lines) (length ls + 1)) _ _ (λ _.
+          after TooWide (ltb 15 (length ls)) _ _ (λ w. ap (λ (b : Bool). first (rule TooMany b ∷ [])) (over-is w))))
 
   -- the tests on what was gathered of the controls
   pub mct-tried : (total : ℕ) (a : Controls) {outside crossed spareless many : Bool} → 1 ≤ h .lines → h .lines ≤ 32 → a ≡ gathered cs → length c ≡ total
       → outside ≡ (leb (h .lines) t || leb (h .lines) (a .largest)) → crossed ≡ getD (a .marks) t false → spareless ≡ (leb 3 (a .lines .count) && eqb (h .lines) (a .lines .count + 1)) → many ≡ over before total (a .lines .count) (a .negated .count)
-      → tried outside crossed (a .rising) (ltb 15 (a .lines .count)) spareless many ≡ first (rules Cascade h before c (mct cs t))
+      → tried outside crossed (a .rising) spareless (ltb 15 (a .lines .count)) many ≡ first (rules Cascade h before c (mct cs t))
   mct-tried total a {outside} {crossed} low high q l o x p m =
       rw (p, m, ap (λ (b : Controls). b .lines .count) q ∙ lines-are cs .count, ap (λ (b : Controls). b .negated .count) q ∙ negated-are cs .count, ap (λ (b : Controls). b .rising) q ∙ rising-is cs, ← l)
       (mct-rules outside-is crossed-is)

@@ -34,11 +34,11 @@ abbrev pub seen-verdict : Verdict → Found
 seen-verdict verdict.Keeps = sound
 seen-verdict (verdict.Breaks r) = breaks r
 
--- rules 4 to 9, in document 01's order, by what is tested: a line is out of range, the target is a control, the controls rise, there are more
--- than 15 of them, no line is spare, there are too many gates
+-- rules 4 to 9, of which 8 is tried before 7, by what is tested: a line is out of range, the target is a control, the controls rise, no line is
+-- spare, there are more than 15 controls, there are too many gates
 abbrev pub tried : Bool → Bool → Bool → Bool → Bool → Bool → Found
-tried outside crossed up wide spareless many =
-    first (rule NoSuchLine outside ∷ rule Crossed crossed ∷ rule Unsorted (not up) ∷ rule TooWide wide ∷ rule NoSpare spareless ∷ rule TooMany many ∷ [])
+tried outside crossed up spareless wide many =
+    first (rule NoSuchLine outside ∷ rule Crossed crossed ∷ rule Unsorted (not up) ∷ rule NoSpare spareless ∷ rule TooWide wide ∷ rule TooMany many ∷ [])
 
 -- the verdict on a gate, after any circuit c of `before` gates
 abbrev pub GateVerdict : Head → Gate → ℕ → Verdict → Type 0

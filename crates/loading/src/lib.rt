@@ -28,16 +28,16 @@ pub enum Verdict {
     Breaks(Refusal),
 }
 
-// Rules 4 to 9, tried in document 01's order.
+// Rules 4 to 9, of which 8 is tried before 7.
 fn try_rules(
     outside: bool,
     crossed: bool,
     rising: bool,
-    wide: bool,
     spareless: bool,
+    wide: bool,
     many: bool,
 ) -> Verdict
-    ensures { λ r. ⌜ seen-verdict r ≡ tried outside crossed rising wide spareless many ⌝ }
+    ensures { λ r. ⌜ seen-verdict r ≡ tried outside crossed rising spareless wide many ⌝ }
 {
     if outside {
         return Verdict::Breaks(Refusal::NoSuchLine);
@@ -48,11 +48,11 @@ fn try_rules(
     if !rising {
         return Verdict::Breaks(Refusal::Unsorted);
     }
-    if wide {
-        return Verdict::Breaks(Refusal::TooWide);
-    }
     if spareless {
         return Verdict::Breaks(Refusal::NoSpare);
+    }
+    if wide {
+        return Verdict::Breaks(Refusal::TooWide);
     }
     if many {
         return Verdict::Breaks(Refusal::TooMany);
@@ -123,7 +123,7 @@ fn mct_rules(head: Head, t: u8, a: Controls, before: usize, total: usize) -> Ver
     let crossed = marked(marks, t);
     let spareless = no_spare(n, k);
     let many = too_many(before, total, k, negated.count);
-    try_rules(outside, crossed, a.rising, 15 < k, spareless, many)
+    try_rules(outside, crossed, a.rising, spareless, 15 < k, many)
 }
 
 // The line answer of a circuit: its gate and the place after it, or a refusal and its line.

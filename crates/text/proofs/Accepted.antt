@@ -1,7 +1,7 @@
 -- What it is to be accepted: the text is the rendering of its forms, each of them keeps the rules, and the circuit is valid on n lines.
 -- Assumes nothing.
 use mathlib.Core.Path.{_≡_, refl, sym, ap, _∙_, subst}
-use mathlib.Core.Bool.{Bool, true, false, _&&_, false≢true}
+use mathlib.Core.Bool.{Bool, true, false, cond, _&&_, false≢true}
 use mathlib.Core.List.{List, [], _∷_, _++_, map, append-assoc, append-nil}
 use Prim.Native.Nat.{ℕ, _+_, _≤_, _<_}
 use native.Mathlib.Omega.{arith}
@@ -25,6 +25,7 @@ use Rattle.gates.proofs.Reach.{all-valid-append}
 use Rattle.cascades.proofs.Signs.{expansion±-fits}
 use Rattle.text.specs.declared.Refusal.{Refusal}
 use Rattle.text.specs.declared.Head.{Head}
+use Rattle.text.specs.Refusals.{number-of}
 use Rattle.text.specs.Text.{Form, lines, gate, mct, rendered, as-forms, Proper, AllProper, cascade-text, circuit-text}
 use Rattle.text.specs.Reading.{Line, in-form, unformed, read, cut}
 use Rattle.text.specs.declared.Kind.{Kind}
@@ -38,7 +39,7 @@ use Rattle.text.proofs.Rising.{rising-distinct, negated-rising}
 pub away-accepted : {r : Refusal} {l : ℕ} {h : Head} {c : List Gate} → turned-away r l ≡ accepted h c → ⊥
 away-accepted e = let z : _≡_ {A = ℕ} 0 1 = cc in omega arith
 
-breaks-sound : {r : Refusal} → breaks r ≡ sound → ⊥
+pub breaks-sound : {r : Refusal} → breaks r ≡ sound → ⊥
 breaks-sound e = let z : _≡_ {A = ℕ} 0 1 = cc in omega arith
 
 pub accepted-head : {h k : Head} {c d : List Gate} → accepted h c ≡ accepted k d → h ≡ k
@@ -52,10 +53,25 @@ unfolding or-else
 passed sound l j e = (refl, e)
 passed (breaks r) l j e = absurd (away-accepted e)
 
-kept : (r : Refusal) (b : Bool) (rs : List Rule) → first (rule r b ∷ rs) ≡ sound → (b ≡ false) × (first rs ≡ sound)
+pub kept : (r : Refusal) (b : Bool) (rs : List Rule) → first (rule r b ∷ rs) ≡ sound → (b ≡ false) × (first rs ≡ sound)
 unfolding first
 kept r true rs e = absurd (breaks-sound e)
 kept r false rs e = (refl, e)
+
+-- the test of the rule with this number
+unfoldable test-of : ℕ → List Rule → Bool
+test-of n [] = false
+test-of n (rule r b ∷ rs) = cond (eqb (number-of r) n) b (test-of n rs)
+
+-- is not met where none is broken, whatever their order
+kept-each : (n : ℕ) (rs : List Rule) → first rs ≡ sound → test-of n rs ≡ false
+unfolding test-of
+kept-each n [] e = refl
+kept-each n (rule r b ∷ rs) e = let w = kept r b rs e in go (eqb (number-of r) n) (w .0) (kept-each n rs (w .1))
+  where
+    go : (x : Bool) → b ≡ false → test-of n rs ≡ false → cond x b (test-of n rs) ≡ false
+    go true p q = p
+    go false p q = q
 
 -- ---- a form that keeps the rules
 
@@ -81,19 +97,13 @@ pub record Kept (k : Kind) (h : Head) (before : ℕ) (c : List Gate) (f : Form) 
   pub short : length (c ++ gates (h .lines) f) ≤ 4096
 
 pub keeps : (k : Kind) (h : Head) (before : ℕ) (c : List Gate) (f : Form) → Proper f → first (rules k h before c f) ≡ sound → Kept k h before c f
-unfolding rules
+unfolding rules test-of
 keeps k h before c f p e =
-    let e3 = kept _ _ _ e in
-    let e4 = kept _ _ _ (e3 .1) in
-    let e5 = kept _ _ _ (e4 .1) in
-    let e6 = kept _ _ _ (e5 .1) in
-    let e7 = kept _ _ _ (e6 .1) in
-    let e8 = kept _ _ _ (e7 .1) in
-    let e9 = kept _ _ _ (e8 .1) in
-    let u = neither (ltb (most k) (before + 1)) (ltb 4096 (length (c ++ gates (h .lines) f))) (e9 .0) in
+    let unmet : (n : ℕ) → test-of n (rules k h before c f) ≡ false = λ n. kept-each n (rules k h before c f) e in
+    let u = neither (ltb (most k) (before + 1)) (ltb 4096 (length (c ++ gates (h .lines) f))) (unmet 9) in
     record {
-      good = record { proper = p; belonging = not-false (belongs k f) (e3 .0); inside = e4 .0; apart = e5 .0; ordered = not-false (rising (controls f)) (e6 .0); unnamed-line = e8 .0 };
-      narrow = ltb-false 15 (length (controls f)) (e7 .0);
+      good = record { proper = p; belonging = not-false (belongs k f) (unmet 3); inside = unmet 4; apart = unmet 5; ordered = not-false (rising (controls f)) (unmet 6); unnamed-line = unmet 8 };
+      narrow = ltb-false 15 (length (controls f)) (unmet 7);
       few = ltb-false (most k) (before + 1) (u .0);
       short = ltb-false 4096 (length (c ++ gates (h .lines) f)) (u .1);
     }

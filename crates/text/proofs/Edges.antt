@@ -1,23 +1,33 @@
--- The unstarred examples, each rule, the order of the rules, and signs, computed: one table. Assumes nothing.
+-- The order of the rules; and the unstarred examples, each rule, that order and signs, computed: one table. Assumes nothing.
 use mathlib.Core.Path.{_≡_, refl}
 use mathlib.Core.Bool.{Bool, true, false, _&&_}
-use mathlib.Core.List.{List, [], _∷_, _++_}
+use mathlib.Core.List.{List, [], _∷_, _++_, map}
 use Prim.Native.Nat.{ℕ, zero, suc}
 use lib.Dec.{eqb}
 use lib.ListN.{length}
+use Rattle.gates.specs.declared.Gate.{Gate}
 use Rattle.meaning.specs.Pattern.{has}
 use Rattle.gates.specs.Inverse.{inverse, inverted}
 use Rattle.cascades.specs.Expansion.{_⨾_, joined, lines-outside, mct-spares, expand, expand-with, expansion}
 use Rattle.cascades.specs.Control.{control-lines, negated-lines}
 use Rattle.cascades.specs.Signs.{nots, between-nots, expansion±}
-use Rattle.text.specs.Text.{bytes}
+use Rattle.text.specs.declared.Head.{Head}
+use Rattle.text.specs.Text.{Form, bytes}
 use Rattle.text.specs.Reading as R
 use Rattle.text.specs.Reading.{strip, second, num, tail, pair, list, many, lines-body, not-body, mct-body, powered-body, parse, whole, read, longer, cut}
 use Rattle.text.specs.Judging as J
 use Rattle.text.specs.declared.Kind.{Kind}
 use Rattle.text.specs.declared.Kind.the-variants.{Cascade, Circuit}
-use Rattle.text.specs.Judging.{Judged, turned-away, accepted, belongs, most, any-from, rising, first, head-rules, rules, or-else, judge-lines, judge-text, read-all, judge}
+use Rattle.text.specs.Judging.{Judged, turned-away, accepted, belongs, most, any-from, rising, Rule, rule, first, head-rules, rules, or-else, judge-lines, judge-text, read-all, judge}
 use Rattle.text.specs.Refusals.{number-of}
+
+unfoldable pub rule-number : Rule → ℕ
+rule-number (rule r b) = number-of r
+
+-- "8 is now tried before 7", at every line
+pub in-order : (k : Kind) (h : Head) (before : ℕ) (c : List Gate) (f : Form) → map rule-number (rules k h before c f) ≡ 3 ∷ 4 ∷ 5 ∷ 6 ∷ 8 ∷ 7 ∷ 9 ∷ []
+unfolding rules rule-number
+in-order k h before c f = refl
 
 -- a text, and: the refusal's number and line; or the lines and the gates of an accepted text
 pub data Edge : Type 0 where
@@ -57,7 +67,7 @@ abbrev edges : List Edge
 edges =
     passes Cascade (bytes "(lines 17)\n" ++ times 11 m15) 17 4092
     ∷ away Cascade (bytes "(lines 17)\n" ++ times 12 m15) 9 13
-    ∷ away Cascade (bytes "(lines 17)\n(mct (0 1 2 3 4 5 6 7 8 9 10 11 12 13 14 15) 16)\n") 7 2
+    ∷ away Cascade (bytes "(lines 17)\n(mct (0 1 2 3 4 5 6 7 8 9 10 11 12 13 14 15) 16)\n") 8 2
     ∷ passes Cascade (bytes "(lines 32)\n") 32 0
     ∷ away Cascade (bytes "(lines 33)\n") 4 1
     ∷ away Cascade (bytes "(lines 0)\n") 4 1
@@ -76,11 +86,19 @@ edges =
     ∷ away Circuit (bytes "(lines 3)\n(v  1 2)\n") 3 2
     ∷ passes Cascade (bytes "(lines 1)\n" ++ times 256 (bytes "(mct () 0)\n")) 1 256
     ∷ away Cascade (bytes "(lines 1)\n" ++ times 257 (bytes "(mct () 0)\n")) 9 258
-    -- 4 before 5, 5 before 6, 6 before 7, 8 before 9
+    -- 4 before 5, 5 before 6, 6 before 8 and 7, 8 before 7 and 9, 7 before 9
     ∷ away Cascade (bytes "(lines 3)\n(mct (3) 3)\n") 4 2
     ∷ away Cascade (bytes "(lines 3)\n(mct (2 1) 2)\n") 5 2
     ∷ away Cascade (bytes "(lines 32)\n(mct (0 2 1 3 4 5 6 7 8 9 10 11 12 13 14 15) 16)\n") 6 2
+    ∷ away Cascade (bytes "(lines 4)\n(mct (0 2 1) 3)\n") 6 2
+    ∷ away Cascade (bytes "(lines 17)\n(mct (0 2 1 3 4 5 6 7 8 9 10 11 12 13 14 15) 16)\n") 6 2
+    ∷ away Cascade (bytes "(lines 18)\n(mct () 0)\n(mct (0 1 2 3 4 5 6 7 8 10 11 12 13 14 15 16 17) 9)\n") 8 3
     ∷ away Cascade (bytes "(lines 4)\n" ++ (times 256 (bytes "(mct () 0)\n") ++ bytes "(mct (0 1 2) 3)\n")) 8 258
+    ∷ away Cascade (bytes "(lines 18)\n" ++ (times 256 (bytes "(mct () 0)\n") ++ bytes "(mct (0 1 2 3 4 5 6 7 8 9 10 11 12 13 14 15) 16)\n")) 7 258
+    -- 8 asks for three controls or more, and for no line more
+    ∷ passes Cascade (bytes "(lines 3)\n(mct (0 1) 2)\n") 3 5
+    ∷ away Cascade (bytes "(lines 16)\n(mct (0 1 2 3 4 5 6 7 8 9 10 11 12 13 14) 15)\n") 8 2
+    ∷ away Cascade (bytes "(lines 18)\n(mct (0 1 2 3 4 5 6 7 8 9 10 11 12 13 14 15) 16)\n") 7 2
     -- signs: the NOTs are counted; the line decides, by rules 4 to 8; a sign stands directly before a control and nowhere else
     ∷ passes Cascade (bytes "(lines 17)\n" ++ (m15-two ++ times 10 m15)) 17 4096
     ∷ away Cascade (bytes "(lines 17)\n" ++ (m15-three ++ times 10 m15)) 9 12
@@ -92,6 +110,7 @@ edges =
     ∷ away Cascade (bytes "(lines 5)\n(mct (-3 3) 4)\n") 6 2
     ∷ away Cascade (bytes "(lines 5)\n(mct (-3 -3) 4)\n") 6 2
     ∷ away Cascade (bytes "(lines 32)\n(mct (-0 -1 -2 -3 -4 -5 -6 -7 -8 -9 -10 -11 -12 -13 -14 -15) 16)\n") 7 2
+    ∷ away Cascade (bytes "(lines 17)\n(mct (-0 -1 -2 -3 -4 -5 -6 -7 -8 -9 -10 -11 -12 -13 -14 -15) 16)\n") 8 2
     ∷ away Cascade (bytes "(lines 4)\n(mct (0 -1 2) 3)\n") 8 2
     ∷ away Cascade (bytes "(lines 3)\n(mct (--1) 2)\n") 3 2
     ∷ away Cascade (bytes "(lines 3)\n(mct (- 1) 2)\n") 3 2

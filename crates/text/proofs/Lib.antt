@@ -1,12 +1,13 @@
 -- The laws and theorems of this crate, in reading order.
+pub mod Edges
 pub mod Printed
 pub mod Rising
 pub mod Accepted
 pub mod Written
 pub mod Cursor
-pub mod Edges
 pub mod Unambiguous
 pub mod JudgedBy
 pub mod Unsigned
 pub mod Signless
 pub mod Lowest
+pub mod WideFirst

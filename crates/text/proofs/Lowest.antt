@@ -1,6 +1,6 @@
--- What a text was judged to be when spare lines were the lowest ones (the gates of then), and what is as it was: every refusal and its line, the
--- head and the number of gates of every text; and the circuit too, of a cascade whose gates have at most four controls and of every circuit text.
--- Assumes nothing.
+-- What a text was judged to be when spare lines were the lowest ones (the gates of then, by the rules of now), and what is as it was: every refusal
+-- and its line, the head and the number of gates of every text; and the circuit too, of a cascade whose gates have at most four controls and of every
+-- circuit text. Assumes nothing.
 use mathlib.Core.Path.{_≡_, refl, ap, _∙_}
 use mathlib.Core.Bool.{false≢true}
 use mathlib.Core.List.{List, [], _∷_, _++_}
@@ -19,10 +19,10 @@ use Rattle.text.specs.declared.Refusal.the-variants.{Malformed}
 use Rattle.text.specs.Text.{Form, lines, gate, mct}
 use Rattle.text.specs.Reading.{Line, in-form, unformed, read, cut}
 use Rattle.text.specs.Judging as now
-use Rattle.text.specs.Judging.{Judged, turned-away, accepted, controls, belongs, Found, sound, breaks, first, head-rules, or-else, read-all}
+use Rattle.text.specs.Judging.{Judged, turned-away, accepted, belongs, Found, sound, breaks, first, head-rules, or-else, read-all}
 use Rattle.text.proofs.Printed.{read-only}
 use Rattle.text.proofs.Accepted.{Good, keeps, expandable}
-use Rattle.text.proofs.JudgedBy.{rules, judge-lines, judge-text}
+use Rattle.text.proofs.JudgedBy.{judge-lines-by, judge-text-by, rules, judge-lines, judge-text}
 
 -- ---- the definitions of then
 
@@ -60,14 +60,14 @@ alike-next sound l w = w
 alike-next (breaks r) l w = refused r l
 
 lines-alike : (k : Kind) (h : Head) (before : ℕ) (c d : List Gate) (ls : List Line) → length c ≡ length d → Alike (now.judge-lines k h before c ls) (judge-lines gates k h before d ls)
-unfolding now.judge-lines judge-lines
+unfolding now.judge-lines judge-lines-by
 lines-alike k h before c d [] e = as-long h e
 lines-alike k h before c d (unformed ∷ ls) e = refused Malformed (before + 2)
 lines-alike k h before c d (in-form f ∷ ls) e =
     rw (same-rules k h before c d f e) (alike-next (first (rules gates k h before d f)) (before + 2) (lines-alike k h (before + 1) (c ++ now.gates (h .lines) f) (d ++ gates (h .lines) f) ls (as-many (h .lines) c d f e)))
 
 text-alike : (k : Kind) (ls : List Line) → Alike (now.judge-text k ls) (judge-text gates k ls)
-unfolding now.judge-text judge-text
+unfolding now.judge-text judge-text-by
 text-alike k [] = refused Malformed 1
 text-alike k (unformed ∷ ls) = refused Malformed 1
 text-alike k (in-form (lines n) ∷ ls) = alike-next (first (head-rules n)) 1 (lines-alike k (record { lines = n }) 0 [] [] ls refl)
@@ -100,7 +100,7 @@ same-gates Circuit n (mct cs t) g w = unfold belongs in absurd (false≢true (g 
 
 lines-before : (k : Kind) (h : Head) (before : ℕ) (c : List Gate) (ls : List (List ℕ)) → Every (Few k) (read-all ls) → now.judge-lines k h before c (read-all ls) ≡ judge-lines gates k h before c (read-all ls)
 unfolding read-all
-lines-before k h before c [] w = unfold now.judge-lines judge-lines in refl
+lines-before k h before c [] w = unfold now.judge-lines judge-lines-by in refl
 lines-before k h before c (l ∷ ls) w = go (read l) refl (w .0) (λ d. lines-before k h (before + 1) d ls (w .1))
   where
     kept-on : (f : Form) → read l ≡ in-form f → Few k (in-form f) → ((d : List Gate) → now.judge-lines k h (before + 1) d (read-all ls) ≡ judge-lines gates k h (before + 1) d (read-all ls)) → (x : Found) → first (now.rules k h before c f) ≡ x
@@ -111,11 +111,11 @@ lines-before k h before c (l ∷ ls) w = go (read l) refl (w .0) (λ d. lines-be
         ∙ ap (λ (g : List Gate). judge-lines gates k h (before + 1) (c ++ g) (read-all ls)) (same-gates k (h .lines) f (keeps k h before c f (read-only l f q .1) e .good) few)
 
     go : (x : Line) → read l ≡ x → Few k x → ((d : List Gate) → now.judge-lines k h (before + 1) d (read-all ls) ≡ judge-lines gates k h (before + 1) d (read-all ls)) → now.judge-lines k h before c (x ∷ read-all ls) ≡ judge-lines gates k h before c (x ∷ read-all ls)
-    go unformed q few ih = unfold now.judge-lines judge-lines in refl
-    go (in-form f) q few ih = unfold now.judge-lines judge-lines in rw (← same-rules k h before c c f refl) (kept-on f q few ih (first (now.rules k h before c f)) refl)
+    go unformed q few ih = unfold now.judge-lines judge-lines-by in refl
+    go (in-form f) q few ih = unfold now.judge-lines judge-lines-by in rw (← same-rules k h before c c f refl) (kept-on f q few ih (first (now.rules k h before c f)) refl)
 
 first-before : (k : Kind) (x : Line) (ls : List (List ℕ)) → Every (Few k) (read-all ls) → now.judge-text k (x ∷ read-all ls) ≡ judge-text gates k (x ∷ read-all ls)
-unfolding now.judge-text judge-text
+unfolding now.judge-text judge-text-by
 first-before k unformed ls w = refl
 first-before k (in-form (lines n)) ls w = ap (or-else (first (head-rules n)) 1) (lines-before k (record { lines = n }) 0 [] ls w)
 first-before k (in-form (gate g)) ls w = refl
@@ -123,7 +123,7 @@ first-before k (in-form (mct cs t)) ls w = refl
 
 text-before : (k : Kind) (ls : List (List ℕ)) → Every (Few k) (read-all ls) → now.judge-text k (read-all ls) ≡ judge-text gates k (read-all ls)
 unfolding read-all
-text-before k [] w = unfold now.judge-text judge-text in refl
+text-before k [] w = unfold now.judge-text judge-text-by in refl
 text-before k (l ∷ ls) w = first-before k (read l) ls (w .1)
 
 pub judged-before : (k : Kind) (s : List ℕ) → FewControls k s → now.judge k s ≡ judge k s

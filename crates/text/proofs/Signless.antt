@@ -27,7 +27,7 @@ use Rattle.text.specs.Reading.{Got, got, none, bind, if-got, strip, num,
 use Rattle.text.specs.Judging as now-judged
 use Rattle.text.specs.Judging.{Judged, turned-away, controls, target, belongs, Found, sound, breaks, first, head-rules, or-else}
 use Rattle.text.proofs.Unsigned.{control, some-controls, list, many, mct-body, parse, read, gates, read-all, judge}
-use Rattle.text.proofs.JudgedBy.{rules, judge-lines, judge-text}
+use Rattle.text.proofs.JudgedBy.{judge-lines-by, judge-text-by, rules, judge-lines, judge-text}
 use Rattle.text.proofs.Printed.{none-got, unbind, got-is, strip-sound, target-sound, strip-minus, control-sound, read-only}
 
 -- ---- controls, as they are read now and as they were
@@ -274,7 +274,7 @@ module _ (k : Kind) (h : Head) where
   foreign-now before c ls e (an-mct cs t) = rw e
 
   foreign-then : (before : ℕ) (c : List Gate) {x : Line} (ls : List Line) → k ≡ Circuit → Foreign x → judge-lines gates k h before c (x ∷ ls) ≡ turned-away Malformed (before + 2)
-  unfolding judge-lines rules first or-else belongs
+  unfolding judge-lines-by now-judged.rules rules first or-else belongs
   foreign-then before c ls e no-form = refl
   foreign-then before c ls e (an-mct cs t) = rw e
 
@@ -283,7 +283,7 @@ module _ (k : Kind) (h : Head) where
 
   -- a line that is read alike
   step : (before : ℕ) (c : List Gate) (l : List ℕ) (ls : List (List ℕ)) {x y : Line} (xs ys : List Line) → Alike k x y → ((d : List Gate) → Outcome (before + 1) d ls xs ys) → Outcome before c (l ∷ ls) (x ∷ xs) (y ∷ ys)
-  unfolding now-judged.judge-lines judge-lines now-judged.rules rules now-judged.gates gates
+  unfolding now-judged.judge-lines judge-lines-by now-judged.rules rules now-judged.gates gates
   step before c l ls xs ys bad f = inl refl
   step before c l ls xs ys (head n) f = next k before l ls (first (rules gates k h before c (lines n))) (f (c ++ []))
   step before c l ls xs ys (a-gate g) f = next k before l ls (first (rules gates k h before c (gate g))) (f (c ++ g ∷ []))
@@ -292,17 +292,17 @@ module _ (k : Kind) (h : Head) where
 
   lines-compared : (before : ℕ) (c : List Gate) (ls : List (List ℕ)) → Outcome before c ls (now-judged.read-all ls) (read-all ls)
   unfolding now-judged.read-all read-all
-  lines-compared before c [] = inl (unfold now-judged.judge-lines judge-lines in refl)
+  lines-compared before c [] = inl (unfold now-judged.judge-lines judge-lines-by in refl)
   lines-compared before c (l ∷ ls) = go (line-compared k l) (λ d. lines-compared (before + 1) d ls)
     where
       go : Compared k (now.read l) (read l) → ((d : List Gate) → Outcome (before + 1) d ls (now-judged.read-all ls) (read-all ls)) → Outcome before c (l ∷ ls) (now.read l ∷ now-judged.read-all ls) (read l ∷ read-all ls)
       go (inl a) f = step before c l ls (now-judged.read-all ls) (read-all ls) a f
-      go (inr (e, w)) f = inr (record { cascade = e; place = 0; malformed = ap (λ (y : Line). judge-lines gates k h before c (y ∷ read-all ls)) (w .malformed-then) ∙ (unfold judge-lines in ap (turned-away Malformed) (omega arith)); newly = w })
+      go (inr (e, w)) f = inr (record { cascade = e; place = 0; malformed = ap (λ (y : Line). judge-lines gates k h before c (y ∷ read-all ls)) (w .malformed-then) ∙ (unfold judge-lines-by in ap (turned-away Malformed) (omega arith)); newly = w })
 
 module _ (k : Kind) where
   first-line : (ls : List (List ℕ)) {x y : Line} → Compared k x y → ((h : Head) → Outcome k h 0 [] ls (now-judged.read-all ls) (read-all ls))
       → (now-judged.judge-text k (x ∷ now-judged.read-all ls) ≡ judge-text gates k (y ∷ read-all ls)) ⊎ Changed k (judge-text gates k (y ∷ read-all ls)) 0 ls
-  unfolding now-judged.judge-text judge-text
+  unfolding now-judged.judge-text judge-text-by
   first-line ls (inl bad) f = inl refl
   first-line ls (inl (head n)) f = go (first (head-rules n)) (f (record { lines = n }))
     where
@@ -319,7 +319,7 @@ module _ (k : Kind) where
 
   lines-judged : (ls : List (List ℕ)) → (now-judged.judge-text k (now-judged.read-all ls) ≡ judge-text gates k (read-all ls)) ⊎ Changed k (judge-text gates k (read-all ls)) 0 (drop 1 ls)
   unfolding now-judged.read-all read-all
-  lines-judged [] = inl (unfold now-judged.judge-text judge-text in refl)
+  lines-judged [] = inl (unfold now-judged.judge-text judge-text-by in refl)
   lines-judged (l ∷ ls) = first-line ls (line-compared k l) (λ h. lines-compared k h 0 [] ls)
 
   -- every text is judged as it was, but for a cascade with a negated control, which was malformed at that line

@@ -1,5 +1,5 @@
--- What a text was judged to be before controls had signs: the definitions of then, but for the order of spare lines, which is that of now
--- (`Lowest.antt` has the one of then). A control was a number. Forms are those of now, with controls that have no sign; `controls`, `target` and
+-- What a text was judged to be before controls had signs: the definitions of then, but for the order of spare lines and that of rules 7 and 8, which
+-- are those of now (`Lowest.antt` and `WideFirst.antt` have those of then). A control was a number. Forms are those of now, with controls that have no sign; `controls`, `target` and
 -- `belongs` read them as they read those of then. Assumes nothing.
 use mathlib.Core.Bool.{Bool, true, false, cond}
 use mathlib.Core.List.{List, [], _∷_}

@@ -66,7 +66,7 @@ rising [] = true
 rising (c ∷ []) = true
 rising (c ∷ d ∷ cs) = ltb c d && rising (d ∷ cs)
 
--- ---- the rules: each with the name of its refusal, tried in this order
+-- ---- the rules: each with the name of its refusal, tried in this order, 3 to 6, 8, 7, 9 (document 02, order 6: "8 is now tried before 7")
 
 pub data Found : Type 0 where
   sound : Found
@@ -90,8 +90,8 @@ rules k h before c f =
     ∷ rule NoSuchLine (any-from (h .lines) (target f ∷ controls f))
     ∷ rule Crossed (has (target f) (controls f))
     ∷ rule Unsorted (not (rising (controls f)))
-    ∷ rule TooWide (ltb 15 (length (controls f)))
     ∷ rule NoSpare (leb 3 (length (controls f)) && eqb (h .lines) (length (controls f) + 1))
+    ∷ rule TooWide (ltb 15 (length (controls f)))
     ∷ rule TooMany (ltb (most k) (before + 1) || ltb 4096 (length (c ++ gates (h .lines) f)))
     ∷ []
 

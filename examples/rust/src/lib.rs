@@ -36,7 +36,9 @@ pub enum Gate {
     Vp { control: u8, target: u8 },
 }
 
-/// The ten numbers of a refusal.
+/// The ten numbers of a refusal. A line of the text is tried against 3, 4, 5, 6, 8, 7
+/// and 9, in this order: so a gate with 16 or more controls that names every line of
+/// the circuit gets [`Number::NoSpare`], and once a line is added [`Number::TooWide`].
 #[derive(Clone, Copy, Debug, PartialEq, Eq, Hash)]
 pub enum Number {
     Overlong = 1,

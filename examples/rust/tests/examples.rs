@@ -213,6 +213,10 @@ fn negated_controls() {
     }
 }
 
+/// A gate with 16 controls, without signs and with some: it names 17 lines.
+const SIXTEEN: &str = "(mct (0 1 2 3 4 5 6 7 8 9 10 11 12 13 14 15) 16)";
+const SIXTEEN_NEGATED: &str = "(mct (-0 1 2 3 4 5 6 7 8 9 10 11 12 13 14 -15) 16)";
+
 #[test]
 fn refusals_of_signs() {
     // A sign is one minus directly before a control, and stands nowhere else.
@@ -250,14 +254,10 @@ fn refusals_of_signs() {
         (["(lines 5)", "(mct (-3 3) 4)"], Number::Unsorted),
         (["(lines 5)", "(mct (-3 -3) 4)"], Number::Unsorted),
         (["(lines 5)", "(mct (-3 2) 4)"], Number::Unsorted),
-        (
-            [
-                "(lines 17)",
-                "(mct (-0 1 2 3 4 5 6 7 8 9 10 11 12 13 14 -15) 16)",
-            ],
-            Number::TooWide,
-        ),
         (["(lines 4)", "(mct (-0 1 -2) 3)"], Number::NoSpare),
+        // Rule 8 is tried before 7.
+        (["(lines 17)", SIXTEEN_NEGATED], Number::NoSpare),
+        (["(lines 18)", SIXTEEN_NEGATED], Number::TooWide),
     ] {
         assert_eq!(map(&text(&lines)), refused(number, 2), "{lines:?}");
         assert_eq!(quoted(&text(&lines)), refused(number, 2), "{lines:?}");
@@ -318,11 +318,13 @@ fn refusals() {
     let no_spare = text(&["(lines 4)", "(mct (0 1 2) 3)"]);
     assert_eq!(map(&no_spare), refused(Number::NoSpare, 2));
     assert_eq!(quoted(&no_spare), refused(Number::NoSpare, 2));
-    let wide = text(&[
-        "(lines 17)",
-        "(mct (0 1 2 3 4 5 6 7 8 9 10 11 12 13 14 15) 16)",
-    ]);
+    // 16 controls break rule 7, and on 17 lines rule 8 too, which is tried before it.
+    let both = text(&["(lines 17)", SIXTEEN]);
+    assert_eq!(map(&both), refused(Number::NoSpare, 2));
+    assert_eq!(quoted(&both), refused(Number::NoSpare, 2));
+    let wide = text(&["(lines 18)", SIXTEEN]);
     assert_eq!(map(&wide), refused(Number::TooWide, 2));
+    assert_eq!(quoted(&wide), refused(Number::TooWide, 2));
     assert_eq!(
         reduce(&text(&["(lines 33)"])),
         refused(Number::NoSuchLine, 1)

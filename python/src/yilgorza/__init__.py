@@ -52,7 +52,12 @@ Text = Union[str, bytes, bytearray, memoryview]
 
 
 class Number(IntEnum):
-    """The ten numbers of a refusal."""
+    """The ten numbers of a refusal.
+
+    A line of the text is tried against 3, 4, 5, 6, 8, 7 and 9, in this order: so a
+    gate with 16 or more controls that names every line of the circuit gets NO_SPARE,
+    and once a line is added TOO_WIDE.
+    """
 
     OVERLONG = 1
     SHORT_LIST = 2

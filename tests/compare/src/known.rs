@@ -53,10 +53,14 @@ fn mct(k: usize, target: usize) -> String {
 /// The examples, texts without gates, full lists and each refusal but 2 and 10.
 pub fn all() -> Vec<Known> {
     let overlong = "x".repeat(60_001);
-    let too_wide = format!("(lines 17)\n{}", mct(16, 16));
+    // Sixteen controls that name every line, which is 8, and all but one, which is 7.
+    let wide_no_spare = format!("(lines 17)\n{}", mct(16, 16));
+    let too_wide = format!("(lines 18)\n{}", mct(16, 16));
+    let widest = format!("(lines 32)\n{}", mct(31, 31));
     let past_expansion = format!("(lines 17)\n{}", mct(15, 15).repeat(12));
     let past_mcts = format!("(lines 2)\n{}", mct(1, 1).repeat(257));
-    let too_wide_negated = too_wide.replace("15)", "-15)");
+    let [wide_no_spare_negated, too_wide_negated] =
+        [&wide_no_spare, &too_wide].map(|text| text.replace("15)", "-15)"));
     // Eleven gates of 15 controls are 4,092; three negated controls are six more.
     let past_nots = format!("(lines 17)\n{}", mct(15, 15).repeat(11));
     let past_nots = past_nots.replacen("(0 1 2 3", "(-0 -1 2 -3", 1);
@@ -78,7 +82,9 @@ pub fn all() -> Vec<Known> {
         ("(lines 3)\n(mct (0 3) 2)\n", refused(4, 2)),
         ("(lines 3)\n(mct (0 2) 2)\n", refused(5, 2)),
         ("(lines 3)\n(mct (1 0) 2)\n", refused(6, 2)),
+        (&wide_no_spare, refused(8, 2)),
         (&too_wide, refused(7, 2)),
+        (&widest, refused(8, 2)),
         ("(lines 4)\n(mct (0 1 2) 3)\n", refused(8, 2)),
         (&past_expansion, refused(9, 13)),
         (&past_mcts, refused(9, 258)),
@@ -91,6 +97,7 @@ pub fn all() -> Vec<Known> {
         ("(lines 3)\n(mct (-0 -3) 2)\n", refused(4, 2)),
         ("(lines 3)\n(mct (0 -2) 2)\n", refused(5, 2)),
         ("(lines 3)\n(mct (1 -1) 2)\n", refused(6, 2)),
+        (&wide_no_spare_negated, refused(8, 2)),
         (&too_wide_negated, refused(7, 2)),
         ("(lines 4)\n(mct (-0 1 -2) 3)\n", refused(8, 2)),
         (&past_nots, refused(9, 12)),
@@ -115,6 +122,8 @@ pub fn all() -> Vec<Known> {
         (&past_full, refused(9, 4_098)),
         ("(lines 2)\n(v 0 1)\n(v -0 1)\n", refused(3, 3)),
         ("(lines 2)\n(mct (-0) 1)\n", refused(3, 2)),
+        (&wide_no_spare, refused(3, 2)),
+        (&too_wide, refused(3, 2)),
     ];
     let known = |job| {
         move |&(text, ample): &(&str, Outcome)| Known {

@@ -2,7 +2,8 @@
 //! line, gates and bytes, every record and byte lent, and what stands beside
 //! them. What the papers say of an answer by themselves, of the answers of one text
 //! with several areas, and of negated controls (see `negated`), is asserted without
-//! the peer too; what order 5 says of spares (see `spares`), beside it.
+//! the peer too; what order 5 says of spares (see `spares`), and order 6 of rules 7 and
+//! 8 (see `wide`), beside it.
 
 use crate::built::{self, Drawn};
 use crate::circuit::{self, Gate};
@@ -13,6 +14,7 @@ use crate::report::{shown, Report};
 use crate::spares::{self, Size};
 use crate::subject::{call, holds, read_record, Area};
 use crate::texts::{self, Signs};
+use crate::wide::{self, Case, Tally};
 use peer::{Job, Outcome, Program};
 
 const JOBS: [Job; 2] = [Job::Map, Job::Reduce];
@@ -26,8 +28,11 @@ const CALLS: [(&str, &[usize]); 4] = [
 /// How often, at least, map gives each of the numbers 0 to 10 to a text with a
 /// minus sign in it; 1 and 2 do not look at the text.
 const FEWEST_SIGNED: [u64; 11] = [
-    30_000, 0, 0, 80_000, 10_000, 5_000, 3_000, 2_000, 1_000, 800, 20_000,
+    30_000, 0, 0, 80_000, 10_000, 5_000, 3_000, 50_000, 3_000, 800, 20_000,
 ];
+/// How often, at least, each number of controls from 14 to 18 has to answer on each of
+/// one to three lines more, in the texts with lines against several rules.
+const FEWEST_WIDE: usize = 40;
 /// Random cascades with negated controls that are held to what the order says,
 /// without the peer.
 const NEGATED: usize = 2_000;
@@ -37,6 +42,23 @@ const SPARES: Size = Size {
     narrow_lines: 8,
     judged: 1_200,
 };
+/// What is run of the order of rules 7 and 8.
+const WIDE: wide::Size = wide::Size {
+    whole: true,
+    random: 6_000,
+};
+/// Other lists and areas than one of 4,096 records with an area of no byte and with an
+/// ample one.
+const WIDE_AREAS: [(usize, usize); 8] = [
+    (4_097, 0),
+    (4_095, 0),
+    (5_000, 50_000),
+    (4_095, 50_000),
+    (4_096, 1),
+    (0, 1),
+    (9_000, 9),
+    (0, 0),
+];
 /// An answer area that has room for every answer, and one that has more.
 const LONGEST: [usize; 2] = [45_067, 50_000];
 
@@ -65,7 +87,7 @@ pub fn run() -> Report {
         numbers: [[0; 11]; CALLS.len()],
         signed: [0; 11],
     };
-    let parts: [(&str, Part); 15] = [
+    let parts: [(&str, Part); 16] = [
         ("answer areas of every length", Library::every_area),
         ("every single change of small texts", Library::every_change),
         ("valid texts", Library::valid),
@@ -77,6 +99,7 @@ pub fn run() -> Report {
         ("negated controls, without the peer", Library::negated),
         ("spares, beside the peer", Library::spares),
         ("spares, answer areas", Library::spares_areas),
+        ("too wide against no spare", Library::wide),
         ("linked circuits", Library::linked),
         ("long circuits of known lists", Library::built),
         ("long circuits redrawn by passes", Library::redrawn),
@@ -203,19 +226,29 @@ impl Library {
         }
     }
 
-    /// A text to one job with an empty answer area and with another.
-    fn with_and_without(&mut self, job: Job, text: &[u8], list_len: usize, answer_len: usize) {
+    /// A text to one job with an empty answer area and with another. Gives what it
+    /// returned for the empty one.
+    fn with_and_without(
+        &mut self,
+        job: Job,
+        text: &[u8],
+        list_len: usize,
+        answer_len: usize,
+    ) -> Outcome {
         let given = [answer_len, 0].map(|length| self.case(job, text, list_len, length));
         self.agree(job, text, &given);
+        given[1].outcome
     }
 
-    /// A text to both jobs, with some lengths of list and answer area.
-    fn any_job(&mut self, text: &[u8]) {
-        for job in JOBS {
+    /// A text to both jobs, with some lengths of list and answer area. Gives what map
+    /// returned for an empty one.
+    fn any_job(&mut self, text: &[u8]) -> Outcome {
+        let outcomes = JOBS.map(|job| {
             let list_len = self.list_len();
             let answer_len = self.random.pick(&[1, 9, 10, 50, 60, 200, 1_000, 50_000]);
-            self.with_and_without(job, text, list_len, answer_len);
-        }
+            self.with_and_without(job, text, list_len, answer_len)
+        });
+        outcomes[0]
     }
 
     /// A text to one job, with the answer area longest, empty, of one byte and,
@@ -330,12 +363,25 @@ impl Library {
     }
 
     fn wild(&mut self) {
+        // How often 14 to 18 controls were accepted, or refused by 7 or 8, with none, one
+        // and two lines unnamed.
+        let mut wide = [[0; 3]; 5];
         for _ in 0..24_000 {
             let text = texts::wild(&mut self.random, true);
-            self.any_job(&text);
+            let Outcome { number, line, .. } = self.any_job(&text);
+            for (place, (k, lines)) in (2..).zip(texts::shapes(&text)) {
+                let answers = number == 0 || (matches!(number, 7 | 8) && line == place);
+                if answers && (14..=18).contains(&k) && (k + 1..=k + 3).contains(&lines) {
+                    wide[k - 14][lines - k - 1] += 1;
+                }
+            }
             let text = texts::wild(&mut self.random, false);
             self.any_job(&text);
         }
+        println!("library: 14 to 18 controls with up to two lines unnamed: {wide:?}");
+        let enough = wide.iter().flatten().all(|&times| times >= FEWEST_WIDE);
+        self.report
+            .case(enough, || format!("too few wide gates: {wide:?}"));
     }
 
     fn sizes(&mut self) {
@@ -534,6 +580,71 @@ impl Library {
             self.areas(Job::Map, &texts::cascade_text(lines, &mcts[..1]));
             self.areas(Job::Map, &texts::cascade_text(lines, &mcts));
         }
+    }
+
+    /// What the order says of rules 7 and 8, each text with several lists and areas. In
+    /// a circuit no mct line is in form.
+    fn wide(&mut self) {
+        let mut tally = Tally::default();
+        for (turn, case) in wide::cases(&mut self.random, WIDE).iter().enumerate() {
+            let text = case.text();
+            let areas = [0, LONGEST[turn % 2]];
+            let given = areas.map(|answer_len| self.wide_case(case, &text, 4_096, answer_len));
+            self.agree(Job::Map, &text, &given);
+            let (list_len, answer_len) = WIDE_AREAS[turn % WIDE_AREAS.len()];
+            self.wide_case(case, &text, list_len, answer_len);
+            if turn % 16 == 0 {
+                let got = self.case(Job::Reduce, &text, 4_096, answer_len).outcome;
+                self.report.case((got.number, got.line) == (3, 2), || {
+                    format!(
+                        "Reduce: got {got:?}, not 3 at line 2; text {}",
+                        shown(&text)
+                    )
+                });
+            }
+            tally.add(case);
+        }
+        tally.tell(&mut self.report, WIDE);
+        // The longest text with such a gate first, and one byte more.
+        for (lines, k, number) in [(17, 16, 8), (18, 16, 7), (32, 31, 8), (32, 30, 7)] {
+            let mut text = texts::cascade_text(lines, &[spares::first_lines(k)]);
+            for (size, due) in [(60_000, (number, 2)), (60_001, (1, 0))] {
+                text.resize(size, b'\n');
+                for answer_len in [0, 50_000] {
+                    let got = self.case(Job::Map, &text, 4_096, answer_len).outcome;
+                    self.report.case((got.number, got.line) == due, || {
+                        format!("Map: got {got:?}, not {due:?}; text {}", shown(&text))
+                    });
+                }
+            }
+        }
+    }
+
+    /// Number and line are those that are due, and the gates where they are known.
+    fn wide_case(&mut self, case: &Case, text: &[u8], list_len: usize, answer_len: usize) -> Given {
+        let given = self.case(Job::Map, text, list_len, answer_len);
+        let got = given.outcome;
+        let due = match case.due {
+            _ if list_len < 4_096 => (2, 0),
+            Some(refusal) => refusal,
+            // Line 1 alone is longer than nine bytes.
+            None if (1..=9).contains(&answer_len) => (10, 0),
+            None => (0, 0),
+        };
+        let gates = case.quote().filter(|_| due.0 == 0);
+        let right = (got.number, got.line) == due
+            && got.gates == gates.map_or(got.gates, |gates| gates as u64)
+            && (due.0 < 3 || holds(&given.list, &[]));
+        self.report.case(right, || {
+            format!(
+                "{:?}, list of {list_len}, answer area of {answer_len}: got {got:?}, the rules say \
+                 {due:?} and gates {gates:?}, before order 6 {:?}; text {}",
+                case.kind,
+                case.before,
+                shown(text)
+            )
+        });
+        given
     }
 
     /// Two linked circuits get one list.

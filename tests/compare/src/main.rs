@@ -25,10 +25,12 @@ mod pairs;
 mod programs;
 mod random;
 mod report;
+mod rules;
 mod small;
 mod spares;
 mod subject;
 mod texts;
+mod wide;
 
 fn main() -> std::process::ExitCode {
     let arguments: Vec<String> = std::env::args().skip(1).collect();

@@ -404,9 +404,9 @@ fn sign_unseen() -> Vec<(String, Due)> {
         add(format!("(lines 14)\n(mct ({controls}) 5)\n"), Accepted);
     }
     for negated in [1, 8, 15, 16] {
-        for lines in [17, 18, 32] {
+        for (lines, number) in [(17, 8), (18, 7), (32, 7)] {
             let text = format!("(lines {lines})\n{}", mct(16, negated, 16));
-            add(text, Refused(7, 2));
+            add(text, Refused(number, 2));
         }
     }
     for k in [3, 4, 9, 15] {

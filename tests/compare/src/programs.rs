@@ -2,16 +2,18 @@
 //! standard output, nothing on standard error, exit status 0; the one over two
 //! texts through files (see `files`). Long circuits whose list the definitions
 //! give (see `built`), and what order 4 says of negated controls (see `negated`),
-//! are asserted without the peer; what order 5 says of spares (see `spares`), beside it.
+//! are asserted without the peer; what order 5 says of spares (see `spares`), and order
+//! 6 of rules 7 and 8 (see `wide`), beside it.
 
 use crate::built;
 use crate::circuit;
 use crate::files;
-use crate::negated;
+use crate::negated::{self, Ask};
 use crate::random::Random;
 use crate::report::{shown, Report};
 use crate::spares::{self, Size};
 use crate::texts::{self, Signs};
+use crate::wide::{self, Kind, Tally};
 use peer::Program;
 use std::ffi::OsString;
 use std::io::{Read, Write};
@@ -35,6 +37,11 @@ const SPARES: Size = Size {
     placements: 1,
     narrow_lines: 6,
     judged: 150,
+};
+/// What is run of the order of rules 7 and 8.
+const WIDE: wide::Size = wide::Size {
+    whole: false,
+    random: 120,
 };
 
 pub fn run(directory: &Path, scratch: &Path) -> Report {
@@ -106,6 +113,7 @@ pub fn run(directory: &Path, scratch: &Path) -> Report {
     };
     negated::run(&mut report, &mut random, NEGATED, &mut ask);
     spares::run(&mut report, &mut random, SPARES, &mut ask);
+    wide_gates(&mut report, &mut random, &mut ask);
     files::run(&mut report, &directory.join("compare"), scratch);
     report
 }
@@ -135,6 +143,54 @@ fn known_lists(report: &mut Report, random: &mut Random, reduce: &Path) {
     }
     println!(
         "programs: reduce, long circuits of known lists: {} cases",
+        report.passed + report.failed - before
+    );
+}
+
+/// What the order says of rules 7 and 8: the answers that are due, which are the peer's
+/// too, of map and quote, or where there are many cases of one of them in turn.
+fn wide_gates(report: &mut Report, random: &mut Random, ask: &mut Ask) {
+    let before = report.passed + report.failed;
+    let mut tally = Tally::default();
+    for (turn, case) in wide::cases(random, WIDE).iter().enumerate() {
+        let text = case.text();
+        let programs = match case.kind {
+            Kind::Pairs => &[Program::Map, Program::Quote][turn % 2..][..1],
+            _ => &[Program::Map, Program::Quote],
+        };
+        for &program in programs {
+            let got = ask(program, &text);
+            let peer = peer::program_answer(program, &text);
+            let right = got.as_ref() == Ok(&peer)
+                && match (case.due, case.quote()) {
+                    (Some((number, line)), _) => {
+                        peer == format!("(turned-away {number} {line})\n").into_bytes()
+                    }
+                    (None, Some(gates)) if program == Program::Quote => {
+                        peer == format!("(quote {gates})\n").into_bytes()
+                    }
+                    (None, None) if program == Program::Quote => peer.starts_with(b"(quote "),
+                    (None, gates) => circuit::read(&peer).is_some_and(|(lines, list)| {
+                        lines == case.lines && list.len() == gates.unwrap_or(list.len())
+                    }),
+                };
+            report.case(right, || {
+                let got = got.as_ref().map(|answer| shown(answer));
+                format!(
+                    "{program:?}: got {got:?}, the rules say {:?}, before order 6 {:?}, the peer {}; \
+                     text {}",
+                    case.due,
+                    case.before,
+                    shown(&peer),
+                    shown(&text)
+                )
+            });
+        }
+        tally.add(case);
+    }
+    tally.tell(report, WIDE);
+    println!(
+        "programs: too wide against no spare: {} cases",
         report.passed + report.failed - before
     );
 }

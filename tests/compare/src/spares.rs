@@ -9,6 +9,7 @@ use crate::meaning;
 use crate::negated::Ask;
 use crate::random::Random;
 use crate::report::{shown, Report};
+use crate::rules::{self, Row};
 use crate::texts::{self, Control, Mct, Signs, EXPANSION};
 use peer::Program;
 
@@ -138,7 +139,7 @@ fn narrow_gates(most: u8) -> usize {
 }
 
 /// A gate without signs.
-fn plain(controls: &[u8], target: u8) -> Mct {
+pub fn plain(controls: &[u8], target: u8) -> Mct {
     let negated = false;
     let controls = controls.iter().map(|&line| Control { line, negated });
     Mct {
@@ -148,7 +149,7 @@ fn plain(controls: &[u8], target: u8) -> Mct {
 }
 
 /// The first k lines as controls, the next as target.
-fn first_lines(k: usize) -> Mct {
+pub fn first_lines(k: usize) -> Mct {
     let controls: Vec<u8> = (0..k as u8).collect();
     plain(&controls, k as u8)
 }
@@ -359,8 +360,9 @@ impl Spares<'_> {
                 let place = self.random.below(mcts.len() + 1);
                 mcts.insert(place, against_a_rule(self.random, lines));
             }
-            let text = texts::cascade_text(lines, &mcts);
-            let due = refusal(lines, &mcts);
+            let rows: Vec<Row> = mcts.into_iter().map(Row::Gate).collect();
+            let text = rules::text(lines, &rows);
+            let due = rules::refusal(rules::NOW, lines, &rows);
             numbers[due.map_or(0, |(number, _)| number as usize)] += 1;
             for program in [Program::Map, Program::Quote] {
                 let got = (self.ask)(program, &text);
@@ -522,7 +524,7 @@ const EQUAL_CELLS: [&[usize]; 13] = [
 /// The quote of one gate, wherever its lines lie: controls and spares are named by
 /// their places in their lists, and other lines in these places give the same list on
 /// other lines. The NOTs of a sign stay, since the line between them is a control.
-fn quote_of(lines: u8, mct: &Mct) -> usize {
+pub fn quote_of(lines: u8, mct: &Mct) -> usize {
     let unnamed = mct.unnamed(lines).len();
     let quote = match mct.controls.len() {
         0 | 1 => 1,
@@ -544,7 +546,7 @@ fn met(mct: &Mct, pattern: usize) -> usize {
 
 /// Valid gates, most of them wide, with 4,070 to 4,120 gates in their expansions or
 /// with up to 258 lines.
-fn near_the_limit(random: &mut Random, lines: u8) -> Vec<Mct> {
+pub fn near_the_limit(random: &mut Random, lines: u8) -> Vec<Mct> {
     let signs = Signs::any(random);
     let most = texts::most_controls(lines);
     let total = random.between(4_070, 4_120);
@@ -584,40 +586,9 @@ fn against_a_rule(random: &mut Random, lines: u8) -> Mct {
             4 => mct = texts::mct(random, lines, width - 1, signs),
             _ => mct = texts::mct(random, lines, (width - 1).min(16), signs),
         }
-        if refusal(lines, std::slice::from_ref(&mct)).is_some() {
+        let row = Row::Gate(mct.clone());
+        if rules::refusal(rules::NOW, lines, &[row]).is_some() {
             return mct;
         }
     }
-}
-
-/// The refusal that rules 4 to 9 give to a cascade in form: number and line. How many
-/// gates an expansion has depends on the number of controls and of signs alone.
-fn refusal(lines: u8, mcts: &[Mct]) -> Option<(u64, u64)> {
-    let mut expanded = 0;
-    for (line, mct) in (2..).zip(mcts) {
-        let controls = mct.lines();
-        let k = controls.len();
-        let no_such_line = mct.target >= lines || controls.iter().any(|&c| c >= lines);
-        let unsorted = controls.windows(2).any(|pair| pair[0] >= pair[1]);
-        let number = if no_such_line {
-            4
-        } else if controls.contains(&mct.target) {
-            5
-        } else if unsorted {
-            6
-        } else if k > MOST_CONTROLS {
-            7
-        } else if k >= 3 && usize::from(lines) == k + 1 {
-            8
-        } else {
-            expanded += mct.gates();
-            if line > 257 || expanded > 4_096 {
-                9
-            } else {
-                continue;
-            }
-        };
-        return Some((number, line));
-    }
-    None
 }

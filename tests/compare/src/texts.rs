@@ -3,11 +3,16 @@
 
 use crate::circuit::{self, Gate};
 use crate::random::Random;
+use std::ops::RangeInclusive;
 
 /// Gates of an expansion by number of controls.
 pub const EXPANSION: [usize; 16] = [
     1, 1, 5, 16, 24, 46, 68, 84, 100, 144, 188, 232, 276, 308, 340, 372,
 ];
+
+/// Numbers of lines on which rules 7 and 8 meet: 14 to 18 controls name all of them, or
+/// all but one or two.
+const MEETING: RangeInclusive<usize> = 15..=21;
 
 /// A control, met when its line is 1, or when it is 0 if negated.
 #[derive(Clone, Copy)]
@@ -436,6 +441,7 @@ fn damage_sign(random: &mut Random, text: &mut Vec<u8>, place: usize) {
 fn wild_mct(random: &mut Random, lines: u8) -> String {
     let width = usize::from(lines);
     let k = match random.below(4) {
+        _ if MEETING.contains(&width) && !random.one_in(4) => width - 1 - random.below(3),
         0 => random.below(4),
         1 => random.below(width),
         2 => random.between(12, 20),
@@ -495,10 +501,10 @@ fn wild_gate(random: &mut Random, lines: u8) -> String {
 
 /// Valid lines with wild ones among them.
 pub fn wild(random: &mut Random, cascade: bool) -> Vec<u8> {
-    let lines = if random.one_in(2) {
-        random.between(1, 32)
-    } else {
-        random.between(1, 6)
+    let lines = match random.below(6) {
+        0..=2 => random.between(1, 32),
+        3 | 4 if cascade => random.between(*MEETING.start(), *MEETING.end()),
+        _ => random.between(1, 6),
     } as u8;
     let header = if random.one_in(60) {
         random.between(0, 40)
@@ -511,9 +517,12 @@ pub fn wild(random: &mut Random, cascade: bool) -> Vec<u8> {
         if cascade && wild {
             text += &wild_mct(random, lines);
         } else if cascade {
-            let k = random
-                .below(most_controls(lines) + 1)
-                .min(random.between(1, 15));
+            let most = most_controls(lines);
+            let k = if MEETING.contains(&usize::from(lines)) && random.one_in(4) {
+                most - random.below(2)
+            } else {
+                random.below(most + 1).min(random.between(1, 15))
+            };
             let signs = Signs::any(random);
             text += &mct_line(&mct(random, lines, k, signs));
         } else if wild {
@@ -544,6 +553,27 @@ pub fn wild(random: &mut Random, cascade: bool) -> Vec<u8> {
         }
     }
     text.into_bytes()
+}
+
+/// How many controls each line after line 1 has, by its form alone, and how many lines
+/// the circuit; none if line 1 is not in form.
+pub fn shapes(text: &[u8]) -> Vec<(usize, usize)> {
+    let text = String::from_utf8_lossy(text);
+    let header = |line: &str| {
+        line.strip_prefix("(lines ")?
+            .strip_suffix(')')?
+            .parse()
+            .ok()
+    };
+    let mut rows = text.lines();
+    let Some(lines) = rows.next().and_then(header) else {
+        return Vec::new();
+    };
+    let controls = |row: &str| match row.split_once(')').unwrap_or((row, "")).0 {
+        "(mct (" => 0,
+        front => front.matches(' ').count(),
+    };
+    rows.map(|row| (controls(row), lines)).collect()
 }
 
 /// Texts of exactly so many bytes: lines, garbage or one endless mct line after

@@ -186,8 +186,10 @@ fn counts_of_the_expansion() {
 
 #[test]
 fn refusals_of_the_examples() {
-    let wide = "(lines 17)\n".to_string() + &mct(16, 16);
-    assert_eq!(refused(Job::Map, &wide), (7, 2));
+    // Order 6 has made 8 of the first; with a line that it does not name it is 7.
+    let wide = |lines: u8| format!("(lines {lines})\n{}", mct(16, 16));
+    assert_eq!(refused(Job::Map, &wide(17)), (8, 2));
+    assert_eq!(refused(Job::Map, &wide(18)), (7, 2));
     for job in [Job::Map, Job::Reduce] {
         let (outcome, _, _) = run(job, "(lines 32)\n", 50_000);
         assert_eq!(outcome, accepted(0, 11));

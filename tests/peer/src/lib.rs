@@ -266,3 +266,5 @@ mod examples;
 mod negated;
 #[cfg(test)]
 mod spares;
+#[cfg(test)]
+mod wide;

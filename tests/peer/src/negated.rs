@@ -323,10 +323,11 @@ fn rules_4_to_8_do_not_see_the_sign() {
     for controls in ["3 -4", "-3 4", "-3 -4", "-9 -10", "-0 1", "0 -1"] {
         assert!(mapped(&format!("(lines 14)\n(mct ({controls}) 5)\n")).len() > 11);
     }
-    // 7: sixteen controls, whatever their signs; also where 8 holds too.
+    // 7: sixteen controls, whatever their signs; 8 where that holds too.
     for negated in [1, 8, 15, 16] {
-        for lines in [17, 18, 32] {
-            assert_eq!(line_refused(lines, mct(16, negated, 16).trim_end()), (7, 2));
+        for (lines, number) in [(17, 8), (18, 7), (32, 7)] {
+            let line = mct(16, negated, 16);
+            assert_eq!(line_refused(lines, line.trim_end()), (number, 2));
         }
         assert!(quoted(&format!("(lines 17)\n{}", mct(15, negated.min(15), 15))) > 0);
     }

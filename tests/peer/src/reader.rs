@@ -1,4 +1,5 @@
-//! The reader of both texts, with rules 3 to 9 tried on each whole line.
+//! The reader of both texts, with rules 3 to 9 tried on each whole line, in the
+//! order of their numbers but for 8, which comes before 7.
 
 use crate::gate::Gate;
 use crate::{expansion, Circuit, Kind, Refusal, MOST_GATES, MOST_MCTS};
@@ -67,7 +68,7 @@ struct Controls {
     negated: Vec<u8>,
 }
 
-/// One mct line, rules 3 to 9.
+/// One mct line, rules 3 to 6, 8, 7 and 9.
 fn read_mct(
     line: &[u8],
     circuit: &mut Circuit,
@@ -89,11 +90,11 @@ fn read_mct(
     if controls.windows(2).any(|pair| pair[0] >= pair[1]) {
         return Err(UNSORTED);
     }
-    if controls.len() > 15 {
-        return Err(TOO_WIDE);
-    }
     if controls.len() >= 3 && usize::from(lines) == controls.len() + 1 {
         return Err(NO_SPARE);
+    }
+    if controls.len() > 15 {
+        return Err(TOO_WIDE);
     }
     if mcts_before >= MOST_MCTS {
         return Err(TOO_MANY);

@@ -6,7 +6,7 @@ use Rattle.loading.proofs.no_spare.Statement.{statement}
 use Rattle.loading.proofs.no_spare.Tie as tie
 
 returns : tie.Need-returns
-returns c = spare-few (c .before .args .lines) (c .before .args .k) (c .if1 .taken)
+returns c = spare-few (c .before .args .lines) (c .before .args .k) (omega (arith, c .if1 .taken))
 
 sub-result : tie.Need-sub-result
 sub-result c = search needs
