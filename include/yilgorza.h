@@ -1,6 +1,6 @@
 /* Yilgorza for C: maps a cascade of multiple-control Toffoli gates to a list of
-   NCV gates, or quotes its gate count alone, reduces such a list, and says whether
-   two such lists are one circuit.
+   NCV gates, or quotes its gate count alone, reduces such a list, inverts it, joins
+   two of them, and says whether two are one circuit.
 
    The functions are in the archive target/staticlib/libcapi.a, which
    `rt staticlib capi` proves and writes. `bin/shared-object ARCHIVE OUT` makes a
@@ -57,18 +57,21 @@ enum {
     YILGORZA_SEVERAL_NUMBER = 0, /* 0, or the number of the refusal */
     YILGORZA_SEVERAL_LINE = 1,   /* the line that is refused, counted from 1, of
                                     the text that the next place names; 0 on
-                                    success and with the numbers 1 and 2 */
+                                    success and with the numbers 1, 2, 10 and
+                                    11 */
     YILGORZA_SEVERAL_TEXT = 2,   /* the text whose rule or line refuses, counted
                                     from 1 in the order in which the job takes
-                                    them; 0 on success */
-    YILGORZA_SEVERAL_COUNT = 3   /* on success what compare finds; else 0 */
+                                    them; 0 on success and with the numbers 10
+                                    and 11 */
+    YILGORZA_SEVERAL_COUNT = 3   /* on success what compare finds, or the bytes
+                                    that join writes; else 0 */
 };
 
 /* What compare finds, as its count: the first text is less than the second, equal
    to it or greater. */
 enum { YILGORZA_LESS = 0, YILGORZA_EQUAL = 1, YILGORZA_GREATER = 2 };
 
-/* The ten numbers of a refusal. n is the number of line 1, `(lines n)`, and k the
+/* The numbers of a refusal. n is the number of line 1, `(lines n)`, and k the
    number of controls of an mct, negated ones among them; docs/USING.md of the
    repository has the forms of the texts. A control with a minus sign directly
    before it, as in `(mct (-0 1) 2)`, is negated: it is met when its line is 0, any
@@ -78,28 +81,31 @@ enum { YILGORZA_LESS = 0, YILGORZA_EQUAL = 1, YILGORZA_GREATER = 2 };
    and each is tried against 3, 4, 5, 6, 8, 7 and 9, in this order; the first line
    that fails is returned. So a line that passes 3 to 6 and has 16 or more controls
    gets 8 if n = k + 1, and 7 if n is larger. Then comes 10. Of several texts each is
-   tried against 1 to 9, against 2 with its own list, before the next one is looked
-   at. */
+   tried against 1 to 9, against 2 with the list that is judged with it, before the
+   next one is looked at; then come 11 and the 9 of a join, and 10 is the last. */
 enum {
     YILGORZA_SUCCESS = 0,
-    YILGORZA_OVERLONG = 1,     /* the text has more than 60,000 bytes */
-    YILGORZA_SHORT_LIST = 2,   /* the list has fewer than 4,096 records */
-    YILGORZA_MALFORMED = 3,    /* a line of the text is not in form, or the text is
-                                  empty; a sign is in form only as a minus sign
-                                  directly before a control of an mct */
-    YILGORZA_NO_SUCH_LINE = 4, /* a number is n or more: the circuit has no such
-                                  line; in line 1 of the text, n is not in 1 to
-                                  32 */
-    YILGORZA_CROSSED = 5,      /* a control equals the target */
-    YILGORZA_UNSORTED = 6,     /* the controls do not strictly rise by line */
-    YILGORZA_TOO_WIDE = 7,     /* more than 15 controls; tried after 8 */
-    YILGORZA_NO_SPARE = 8,     /* three or more controls, and n = k + 1; tried
-                                  before 7 */
-    YILGORZA_TOO_MANY = 9,     /* the 257th mct, an expansion past 4,096 gates with
-                                  this line, two NOTs for each negated control
-                                  counted, or the 4,097th gate of a circuit */
-    YILGORZA_SHORT_ANSWER = 10 /* the answer text is longer than its area; never
-                                  from map with an area of length 0 */
+    YILGORZA_OVERLONG = 1,         /* the text has more than 60,000 bytes */
+    YILGORZA_SHORT_LIST = 2,       /* the list has fewer than 4,096 records */
+    YILGORZA_MALFORMED = 3,        /* a line of the text is not in form, or the text
+                                      is empty; a sign is in form only as a minus
+                                      sign directly before a control of an mct */
+    YILGORZA_NO_SUCH_LINE = 4,     /* a number is n or more: the circuit has no such
+                                      line; in line 1 of the text, n is not in 1 to
+                                      32 */
+    YILGORZA_CROSSED = 5,          /* a control equals the target */
+    YILGORZA_UNSORTED = 6,         /* the controls do not strictly rise by line */
+    YILGORZA_TOO_WIDE = 7,         /* more than 15 controls; tried after 8 */
+    YILGORZA_NO_SPARE = 8,         /* three or more controls, and n = k + 1; tried
+                                      before 7 */
+    YILGORZA_TOO_MANY = 9,         /* the 257th mct, an expansion past 4,096 gates
+                                      with this line, two NOTs for each negated
+                                      control counted, or the 4,097th gate of a
+                                      circuit; from join also the 4,097th of both
+                                      circuits together */
+    YILGORZA_SHORT_ANSWER = 10,    /* the answer text is longer than its area; never
+                                      from map with an area of length 0 */
+    YILGORZA_DIFFERENT_LINES = 11  /* the two texts of a join have not the same n */
 };
 
 /* A record of the list is a gate as a number:
@@ -117,9 +123,8 @@ enum {
    None of the areas that are written overlaps another area. A text is only read. It
    may hold any bytes, and the areas may have any lengths. */
 
-/* The two jobs over one text. Each takes a text of text_len bytes, a list of
-   list_len records, an answer area of answer_len bytes and an outcome of four
-   numbers.
+/* The jobs over one text. Each takes a text of text_len bytes, a list of list_len
+   records, an answer area of answer_len bytes and an outcome of four numbers.
 
    On success the list holds first the reduced list, gate by gate, and `not 0` in
    every later record; the answer area holds that list as a circuit text at its
@@ -145,8 +150,40 @@ void yilgorza_reduce(const uint8_t *text, size_t text_len, uint16_t *list,
                      size_t list_len, uint8_t *answer, size_t answer_len,
                      uint64_t *outcome);
 
-/* The job over two texts: are they one circuit? Each is a circuit text with a list
-   of its own, and the outcome has four numbers. The two texts may be one area.
+/* Inverts a circuit text: its gates are reversed, v and vp are exchanged, and the
+   circuit so made is reduced. It undoes the circuit: one after the other, either
+   way round, leaves every pattern of bits as it was. It refuses exactly what reduce
+   refuses, but that 10 goes by the length of its own answer, and an answer area of
+   length 0 is too short for it too. */
+void yilgorza_invert(const uint8_t *text, size_t text_len, uint16_t *list,
+                     size_t list_len, uint8_t *answer, size_t answer_len,
+                     uint64_t *outcome);
+
+/* Joins two circuit texts, the first before the second, and reduces the circuit so
+   made. It has one list, which is judged with the first text, and one answer area;
+   the outcome has the places for several texts. The two texts may be one area.
+
+   On success the list holds first the reduced list of the join, and `not 0` in every
+   later record; the answer area holds it as a circuit text at its front, its other
+   bytes unchanged, and the count is the bytes of that text. How many gates the list
+   has is not returned: the text has one line more.
+
+   Of the numbers only 1, 2, 3, 4, 5, 9, 10 and 11 are given. First come those of the
+   first text, then those of the second, with their text numbers. Number 11 comes
+   next, if the two texts have not the same n. Then 9: if the circuits as read, before
+   any reduction, have together more than 4,096 gates, say m and more than 4,096 - m,
+   the text number is 2 and the line 4,096 - m + 2, that of the first gate over. The
+   last is 10; an answer area of length 0 is too short.
+
+   A refusal leaves the answer area unchanged. Number 1, of either text, and number 2
+   leave the list unchanged, the others leave `not 0` in every record. */
+void yilgorza_join(const uint8_t *first, size_t first_len, uint16_t *list,
+                   size_t list_len, const uint8_t *second, size_t second_len,
+                   uint8_t *answer, size_t answer_len, uint64_t *outcome);
+
+/* The other job over two texts: are they one circuit? Each is a circuit text with a
+   list of its own, and the outcome has the places for several texts. The two texts
+   may be one area.
 
    The circuits are compared by n first, the smaller one being less. With the same
    n their reduced lists are compared in dictionary order, gate by gate in the order

@@ -1,7 +1,8 @@
 /* Maps the Toffoli gate, and prints the number of gates, the answer and the gate
-   list, all from one call; and quotes the same gate written twice. Then compares a
-   circuit that was ordered with two drawings of it that came later, one of them with
-   a line that the circuit does not have. */
+   list, all from one call. Uncomputes it: inverts the circuit, and joins the two, of
+   which nothing is left. Quotes the same gate written twice. Then compares a circuit
+   that was ordered with two drawings of it that came later, one of them with a line
+   that the circuit does not have, and joins it with one on another number of lines. */
 
 #include <inttypes.h>
 #include <stdio.h>
@@ -15,10 +16,12 @@ static const char twice[] = "(lines 3)\n(mct (0 1) 2)\n(mct (0 1) 2)\n";
 static const char ordered[] = "(lines 3)\n(v 1 2)\n(v 1 2)\n";
 static const char redrawn[] = "(lines 3)\n(cn 0 2)\n(cn 1 2)\n(cn 0 2)\n";
 static const char mistyped[] = "(lines 3)\n(cn 0 2)\n(cn 1 3)\n(cn 0 2)\n";
+static const char wider[] = "(lines 4)\n(cn 2 3)\n";
 
 static uint16_t list[YILGORZA_LIST_RECORDS];
 static uint16_t second_list[YILGORZA_LIST_RECORDS];
-static uint8_t answer[YILGORZA_ANSWER_BYTES];
+static uint8_t answer[YILGORZA_ANSWER_BYTES], inverse[YILGORZA_ANSWER_BYTES];
+static uint8_t joined[YILGORZA_ANSWER_BYTES];
 
 /* The name of a kind of gate, and of what compare finds. */
 static const char *const kinds[] = {"?", "v", "cn", "vp", "not"};
@@ -42,6 +45,21 @@ static int accepted(const uint64_t *outcome) {
     return 0;
 }
 
+/* Whether the job over two texts accepted both; if not, says which it did not. */
+static int both_accepted(const char *job, const uint64_t *outcome) {
+    if (outcome[YILGORZA_SEVERAL_NUMBER] == YILGORZA_SUCCESS)
+        return 1;
+    if (outcome[YILGORZA_SEVERAL_TEXT] == 0)
+        printf("%s: the two texts are turned away: number %" PRIu64 "\n", job,
+               outcome[YILGORZA_SEVERAL_NUMBER]);
+    else
+        printf("%s: text %" PRIu64 " is turned away: number %" PRIu64
+               ", line %" PRIu64 "\n",
+               job, outcome[YILGORZA_SEVERAL_TEXT], outcome[YILGORZA_SEVERAL_NUMBER],
+               outcome[YILGORZA_SEVERAL_LINE]);
+    return 0;
+}
+
 /* Maps a cascade text, with an answer area of this length, and prints how many gates
    and bytes there are, and the bytes. */
 static int map(const char *text, size_t answer_len, uint64_t *outcome) {
@@ -55,19 +73,42 @@ static int map(const char *text, size_t answer_len, uint64_t *outcome) {
     return 1;
 }
 
+/* Joins two circuit texts, the first before the second, and prints the circuit, or
+   which text is turned away. */
+static void join(const uint8_t *first, size_t first_len, const uint8_t *second,
+                 size_t second_len) {
+    uint64_t outcome[4];
+    yilgorza_join(first, first_len, list, YILGORZA_LIST_RECORDS, second, second_len,
+                  joined, YILGORZA_ANSWER_BYTES, outcome);
+    if (!both_accepted("join", outcome))
+        return;
+    printf("join: %" PRIu64 " bytes\n", outcome[YILGORZA_SEVERAL_COUNT]);
+    fwrite(joined, 1, outcome[YILGORZA_SEVERAL_COUNT], stdout);
+}
+
+/* Inverts the circuit text of so many bytes in the answer area, prints what undoes
+   it, and joins it with this. */
+static int uncompute(size_t answer_len) {
+    uint64_t outcome[4];
+    yilgorza_invert(answer, answer_len, list, YILGORZA_LIST_RECORDS, inverse,
+                    YILGORZA_ANSWER_BYTES, outcome);
+    if (!accepted(outcome))
+        return 0;
+    printf("invert: %" PRIu64 " gates, %" PRIu64 " bytes\n", outcome[YILGORZA_GATES],
+           outcome[YILGORZA_BYTES]);
+    fwrite(inverse, 1, outcome[YILGORZA_BYTES], stdout);
+    join(answer, answer_len, inverse, outcome[YILGORZA_BYTES]);
+    return 1;
+}
+
 /* Compares two circuit texts, and prints what is found, or which is turned away. */
 static void compare(const char *first, const char *second) {
     uint64_t outcome[4];
     yilgorza_compare((const uint8_t *)first, strlen(first), list,
                      YILGORZA_LIST_RECORDS, (const uint8_t *)second,
                      strlen(second), second_list, YILGORZA_LIST_RECORDS, outcome);
-    if (outcome[YILGORZA_SEVERAL_NUMBER] == YILGORZA_SUCCESS)
+    if (both_accepted("compare", outcome))
         printf("compare: %s\n", found[outcome[YILGORZA_SEVERAL_COUNT]]);
-    else
-        printf("compare: text %" PRIu64 " is turned away: number %" PRIu64
-               ", line %" PRIu64 "\n",
-               outcome[YILGORZA_SEVERAL_TEXT], outcome[YILGORZA_SEVERAL_NUMBER],
-               outcome[YILGORZA_SEVERAL_LINE]);
 }
 
 int main(void) {
@@ -77,6 +118,8 @@ int main(void) {
         return 1;
     for (uint64_t i = 0; i < outcome[YILGORZA_GATES]; i++)
         print_gate(list[i]);
+    if (!uncompute(outcome[YILGORZA_BYTES]))
+        return 1;
     /* An answer area of length 0 asks for the quote only; its pointer may be null. */
     if (!map(twice, 0, outcome))
         return 1;
@@ -85,5 +128,7 @@ int main(void) {
     print_gate(list[0]);
     print_gate(second_list[0]);
     compare(ordered, mistyped);
+    join((const uint8_t *)ordered, strlen(ordered), (const uint8_t *)wider,
+         strlen(wider));
     return 0;
 }

@@ -1,5 +1,5 @@
-"""The jobs on document 01's examples, on negated controls and on spare lines, from the
-module and from the programs.
+"""The jobs on document 01's examples, on negated controls, on spare lines, on inverses
+and on joins, from the module and from the programs.
 
 The environment variable YILGORZA_BIN names the folder of the programs; else it
 is target/bin of the repository.
@@ -20,6 +20,9 @@ from texts import (
     CIRCUIT_REFUSALS,
     FIVE,
     FIVE_MAPPED,
+    INVERSES,
+    JOIN_REFUSALS,
+    JOINS,
     NEGATED,
     PROGRAMS,
     QUOTES,
@@ -31,12 +34,21 @@ from texts import (
     TOFFOLI,
     TOFFOLI_GATES,
     TOFFOLI_MAPPED,
+    TOFFOLI_UNDONE,
     WIDE,
     WIDE_1,
     WIDE_2,
     typed,
 )
-from yilgorza import Gate, InternalError, Kind, Number, Ordering, TurnedAway
+from yilgorza import (
+    Circuit,
+    Gate,
+    InternalError,
+    Kind,
+    Number,
+    Ordering,
+    TurnedAway,
+)
 
 # A circuit that is accepted, and every drawing of RISING with its circuit's place.
 GOOD = typed("(lines 2)", "(cn 0 1)")
@@ -167,20 +179,97 @@ class Module(unittest.TestCase):
         self.assertEqual([sorted(row) for row in rows], [sorted(row) for row in RISING])
         self.assertEqual(max(texts, key=by_circuit), typed("(lines 32)"))
 
+    def test_inverses(self):
+        for text, inverse in INVERSES:
+            with self.subTest(text):
+                circuit = yilgorza.invert(text)
+                self.assertEqual(circuit.text, inverse)
+                self.assertEqual(len(circuit.gates), inverse.count(b"\n") - 1)
+        self.assertEqual(yilgorza.invert(TOFFOLI_UNDONE).gates, TOFFOLI_GATES)
+
+    def test_what_was_computed_is_uncomputed(self):
+        # Every list that map gives here, and every drawing: joined with its inverse,
+        # either way round, it gives no gates, and twice inverted it is reduced.
+        mapped = [yilgorza.map(text).text for text, _ in QUOTES]
+        for text in mapped + [text for _, text in DRAWN]:
+            undo = yilgorza.invert(text)
+            nothing = Circuit(text[: text.index(b"\n") + 1], ())
+            self.assertEqual(yilgorza.join(text, undo.text), nothing)
+            self.assertEqual(yilgorza.join(undo.text, text), nothing)
+            self.assertEqual(yilgorza.invert(undo.text), yilgorza.reduce(text))
+            # It has as many gates.
+            self.assertEqual(len(undo.gates), len(yilgorza.reduce(text).gates))
+
+    def test_the_longest_inverse(self):
+        # No two of these merge; with the inverse there are too many to be joined.
+        forms = ["(v 30 31)", "(v 31 30)"] * 2048
+        undo = ["(vp 30 31)", "(vp 31 30)"] * 2048
+        text = typed("(lines 32)", *forms)
+        inverse = yilgorza.invert(text).text
+        self.assertEqual(inverse, typed("(lines 32)", *undo[::-1]))
+        self.assertEqual(yilgorza.invert(inverse).text, text)
+        with self.assertRaises(TurnedAway) as caught:
+            yilgorza.join(text, inverse)
+        self.assertEqual(caught.exception.form, "(turned-away 9 2 2)")
+        half = typed("(lines 32)", *forms[:2048])
+        self.assertEqual(
+            yilgorza.join(half, yilgorza.invert(half).text).text, typed("(lines 32)")
+        )
+
+    def test_joins(self):
+        for first, second, joined in JOINS:
+            with self.subTest((first[:40], second[:40])):
+                circuit = yilgorza.join(first, second)
+                self.assertEqual(circuit.text, joined)
+                # It is what reduce gives to both texts put together, and to their
+                # reduced lists.
+                both = first + second.partition(b"\n")[2]
+                self.assertEqual(yilgorza.reduce(both), circuit)
+                parts = yilgorza.reduce(first).text, yilgorza.reduce(second).text
+                self.assertEqual(yilgorza.join(*parts), circuit)
+        # The same gate twice does not vanish: document 01 quotes it 9.
+        twice = yilgorza.join(TOFFOLI_MAPPED, TOFFOLI_MAPPED)
+        self.assertEqual(twice, yilgorza.map(TOFFOLI + b"(mct (0 1) 2)\n"))
+        self.assertEqual(len(twice.gates), 9)
+
+    def test_joins_in_any_grouping(self):
+        texts = [text for _, text in DRAWN if text.startswith(b"(lines 2)")]
+        for first, second, third in itertools.product(texts, repeat=3):
+            left = yilgorza.join(yilgorza.join(first, second).text, third)
+            right = yilgorza.join(first, yilgorza.join(second, third).text)
+            self.assertEqual(left, right)
+
     def test_refusals_of_two_texts(self):
-        def refused(first: bytes, second: bytes) -> tuple:
+        def refused(job: object, first: bytes, second: bytes) -> tuple:
             with self.assertRaises(TurnedAway) as caught:
-                yilgorza.compare(first, second)
+                job(first, second)
             refusal = caught.exception
             return refusal.number, refusal.line, refusal.text
 
         for text, number, line in CIRCUIT_REFUSALS:
-            with self.subTest(text[:40]):
-                self.assertEqual(refused(text, GOOD), (number, line, 1))
-                self.assertEqual(refused(GOOD, text), (number, line, 2))
-                # The first text is judged whole before the second is looked at.
-                for other, _, _ in CIRCUIT_REFUSALS:
-                    self.assertEqual(refused(text, other), (number, line, 1))
+            for job in (yilgorza.compare, yilgorza.join):
+                with self.subTest(text[:40], job=job.__name__):
+                    self.assertEqual(refused(job, text, GOOD), (number, line, 1))
+                    self.assertEqual(refused(job, GOOD, text), (number, line, 2))
+                    # The first text is judged whole before the second is looked at.
+                    for other, _, _ in CIRCUIT_REFUSALS:
+                        self.assertEqual(refused(job, text, other), (number, line, 1))
+        for first, second, *told in JOIN_REFUSALS:
+            with self.subTest((first[:40], second[:40])):
+                self.assertEqual(refused(yilgorza.join, first, second), tuple(told))
+                # A text that is refused by itself is told before.
+                bad, number, line = CIRCUIT_REFUSALS[1]
+                self.assertEqual(refused(yilgorza.join, first, bad), (number, line, 2))
+
+    def test_refusals_of_a_circuit(self):
+        for text, number, line in CIRCUIT_REFUSALS:
+            for job in (yilgorza.reduce, yilgorza.invert):
+                with self.subTest(text[:40], job=job.__name__):
+                    with self.assertRaises(TurnedAway) as caught:
+                        job(text)
+                    refusal = caught.exception
+                    self.assertEqual((refusal.number, refusal.line), (number, line))
+                    self.assertIsNone(refusal.text)
 
     def test_the_longest_circuits(self):
         # 4,096 gates that vanish, and 4,096 that stay.
@@ -250,6 +339,10 @@ class Module(unittest.TestCase):
             for (first, text), (second, other) in zip(DRAWN, DRAWN[1:]):
                 found = yilgorza.compare(text, other)
                 self.assertIs(found, order(first, second))
+            for text, inverse in INVERSES:
+                self.assertEqual(yilgorza.invert(text).text, inverse)
+            for text, other, joined in JOINS:
+                self.assertEqual(yilgorza.join(text, other).text, joined)
 
         with ThreadPoolExecutor(8) as pool:
             self.assertEqual(list(pool.map(answers, range(64))), [None] * 64)
@@ -263,27 +356,50 @@ class Programs(unittest.TestCase):
         self.assertEqual(run.returncode, 0)
         return run.stdout
 
-    def compared(self, first: bytes, second: bytes) -> bytes:
+    def written_of_two(self, program: str, first: bytes, second: bytes) -> bytes:
         with tempfile.TemporaryDirectory() as folder:
             names = [Path(folder) / "first", Path(folder) / "second"]
             for name, text in zip(names, (first, second)):
                 name.write_bytes(text)
-            run = subprocess.run([PROGRAMS / "compare", *names], stdout=subprocess.PIPE)
+            run = subprocess.run([PROGRAMS / program, *names], stdout=subprocess.PIPE)
         self.assertEqual(run.returncode, 0)
         return run.stdout
 
     def test_compare(self):
         for (first, text), (second, other) in itertools.product(DRAWN, DRAWN):
             form = f"({order(first, second).name.lower()})"
-            self.assertEqual(self.compared(text, other), typed(form), (text, other))
+            found = self.written_of_two("compare", text, other)
+            self.assertEqual(found, typed(form), (text, other))
+
+    def test_join(self):
+        for first, second, joined in JOINS:
+            with self.subTest((first[:40], second[:40])):
+                self.assertEqual(self.written_of_two("join", first, second), joined)
+        for first, second, number, line, text in JOIN_REFUSALS:
+            with self.subTest((first[:40], second[:40])):
+                refusal = TurnedAway(number, line, text)
+                self.assertEqual(
+                    self.written_of_two("join", first, second), typed(refusal.form)
+                )
+
+    def test_invert(self):
+        for text, inverse in INVERSES:
+            with self.subTest(text):
+                self.assertEqual(self.written("invert", text), inverse)
 
     def test_refusals_of_two_texts(self):
         for text, number, line in CIRCUIT_REFUSALS:
-            with self.subTest(text[:40]):
-                first, second = TurnedAway(number, line, 1), TurnedAway(number, line, 2)
-                self.assertEqual(self.compared(text, GOOD), typed(first.form))
-                self.assertEqual(self.compared(GOOD, text), typed(second.form))
-                self.assertEqual(self.compared(text, b""), typed(first.form))
+            first, second = TurnedAway(number, line, 1), TurnedAway(number, line, 2)
+            for program in ("compare", "join"):
+                with self.subTest(text[:40], program=program):
+                    for texts, refusal in (
+                        ((text, GOOD), first),
+                        ((GOOD, text), second),
+                        ((text, b""), first),
+                    ):
+                        self.assertEqual(
+                            self.written_of_two(program, *texts), typed(refusal.form)
+                        )
 
     def test_map_and_quote(self):
         self.assertEqual(self.written("map", TOFFOLI), TOFFOLI_MAPPED)
@@ -308,8 +424,9 @@ class Programs(unittest.TestCase):
     def test_circuit_refusals(self):
         for text, number, line in CIRCUIT_REFUSALS:
             with self.subTest(text[:40]):
-                refusal = TurnedAway(number, line)
-                self.assertEqual(self.written("reduce", text), typed(refusal.form))
+                form = typed(TurnedAway(number, line).form)
+                self.assertEqual(self.written("reduce", text), form)
+                self.assertEqual(self.written("invert", text), form)
 
     def test_refusals(self):
         for text, number, line in REFUSALS:

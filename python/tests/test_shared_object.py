@@ -12,7 +12,7 @@ from texts import ARCHIVE, REPOSITORY
 STUB = Path(__file__).resolve().with_name("stub.c")
 
 # The jobs, and how many texts each takes.
-JOBS = {"map": 1, "reduce": 1, "quote": 1, "compare": 2}
+JOBS = {"map": 1, "reduce": 1, "quote": 1, "compare": 2, "invert": 1, "join": 2}
 
 
 class Named(unittest.TestCase):
@@ -84,13 +84,17 @@ class Named(unittest.TestCase):
                 )
                 self.assertEqual(
                     self.error(self.made, b"x", job),
-                    "InternalError yilgorza: there is no refusal 11\n",
+                    "InternalError yilgorza: there is no refusal 99\n",
                 )
-        for job in ("map", "reduce"):
+        for job in ("map", "reduce", "invert"):
             self.assertEqual(
                 self.error(self.made, b"xx", job),
                 "InternalError yilgorza: the answer has not 0 gates\n",
             )
+        self.assertEqual(
+            self.error(self.made, b"xx", "join"),
+            "InternalError yilgorza: the answer has no line 1\n",
+        )
 
 
 if __name__ == "__main__":

@@ -5,7 +5,7 @@ import unittest
 
 import yilgorza
 from texts import TOFFOLI, TOFFOLI_MAPPED, typed
-from yilgorza import Number, Ordering, TurnedAway
+from yilgorza import Circuit, Number, Ordering, TurnedAway
 
 CIRCUIT = typed("(lines 2)", "(v 0 1)", "(v 0 1)")
 
@@ -18,7 +18,24 @@ def compare_second(text: object) -> Ordering:
     return yilgorza.compare(CIRCUIT, text)
 
 
-JOBS = (yilgorza.map, yilgorza.reduce, yilgorza.quote, compare_first, compare_second)
+def join_first(text: object) -> Circuit:
+    return yilgorza.join(text, CIRCUIT)
+
+
+def join_second(text: object) -> Circuit:
+    return yilgorza.join(CIRCUIT, text)
+
+
+JOBS = (
+    yilgorza.map,
+    yilgorza.reduce,
+    yilgorza.quote,
+    yilgorza.invert,
+    compare_first,
+    compare_second,
+    join_first,
+    join_second,
+)
 
 
 class Longer(bytes):
@@ -55,6 +72,12 @@ class Taken(unittest.TestCase):
                 self.assertIs(yilgorza.compare(text, "(lines 1)\n"), Ordering.GREATER)
                 self.assertIs(yilgorza.compare("(lines 3)\n", text), Ordering.GREATER)
                 self.assertIs(yilgorza.compare(text, text), Ordering.EQUAL)
+                self.assertEqual(
+                    yilgorza.invert(text).text, typed("(lines 2)", "(cn 0 1)")
+                )
+                self.assertEqual(yilgorza.join(text, text).text, typed("(lines 2)"))
+                for joined in (join_first(text), join_second(text)):
+                    self.assertEqual(joined.text, typed("(lines 2)"))
 
     def test_a_given_text_is_left_as_it_is(self):
         text = bytearray(TOFFOLI)

@@ -15,8 +15,16 @@ from concurrent.futures import ProcessPoolExecutor
 from dataclasses import FrozenInstanceError
 
 import yilgorza
-from texts import CIRCUIT_REFUSALS, QUOTES, REFUSALS, REPOSITORY, TOFFOLI
-from yilgorza import Kind, Number, Ordering, TurnedAway, _library
+from texts import (
+    CIRCUIT_REFUSALS,
+    JOIN_REFUSALS,
+    QUOTES,
+    REFUSALS,
+    REPOSITORY,
+    TOFFOLI,
+    TOFFOLI_MAPPED,
+)
+from yilgorza import Circuit, Kind, Number, Ordering, TurnedAway, _library
 
 
 class Refusals(unittest.TestCase):
@@ -25,7 +33,7 @@ class Refusals(unittest.TestCase):
         rest = page.partition("| r | in a customer's words |\n")[2]
         table = rest.partition("\n\n")[0]
         rows = re.findall(r"^\| (\d+) \| (.+) \|$", table, re.MULTILINE)
-        self.assertEqual(len(rows), 10)
+        self.assertEqual(len(rows), 11)
         self.assertEqual(
             [(number.value, number.words) for number in Number],
             [(int(number), words) for number, words in rows],
@@ -65,6 +73,9 @@ class Refusals(unittest.TestCase):
         self.assertEqual(refusal.text, 0)
         self.assertEqual(refusal.form, "(turned-away 10 0 0)")
         self.assertEqual(str(refusal), f"refusal 10: {Number(10).words}")
+        refusal = TurnedAway(Number.DIFFERENT_LINES, 0, 0)
+        self.assertEqual(refusal.form, "(turned-away 11 0 0)")
+        self.assertEqual(str(refusal), f"refusal 11: {Number(11).words}")
 
     def test_what_a_job_says(self):
         with self.assertRaises(TurnedAway) as caught:
@@ -80,9 +91,16 @@ class Refusals(unittest.TestCase):
             "refusal 5 at line 2 of the second text: "
             "a gate is controlled by its own target",
         )
+        with self.assertRaises(TurnedAway) as caught:
+            yilgorza.join("(lines 3)\n", "(lines 2)\n")
+        self.assertEqual(
+            str(caught.exception),
+            "refusal 11: the two circuits do not have the same number of lines",
+        )
 
     def test_every_number_is_met(self):
         met = {number for _, number, _ in REFUSALS}
+        met |= {number for *_, number, _, _ in JOIN_REFUSALS}
         self.assertEqual(set(Number) - met, {Number.SHORT_LIST, Number.SHORT_ANSWER})
         # Of a circuit's lines only these rules can fail.
         met = {number for _, number, _ in CIRCUIT_REFUSALS}
@@ -98,7 +116,7 @@ class Refusals(unittest.TestCase):
         refusal = TurnedAway(8, 2)
         self.assertIs(refusal.number, Number.NO_SPARE)
         with self.assertRaises(ValueError):
-            TurnedAway(11, 2)
+            TurnedAway(99, 2)
 
     def test_equality_is_identity(self):
         refusal = TurnedAway(8, 2)
@@ -143,7 +161,12 @@ class Pickled(unittest.TestCase):
                 self.same(copy.deepcopy(refusal), number, 3, text)
 
     def test_results(self):
-        for made in (yilgorza.map(TOFFOLI), yilgorza.quote(TOFFOLI)):
+        for made in (
+            yilgorza.map(TOFFOLI),
+            yilgorza.quote(TOFFOLI),
+            yilgorza.invert(TOFFOLI_MAPPED),
+            yilgorza.join(TOFFOLI_MAPPED, TOFFOLI_MAPPED),
+        ):
             self.assertEqual(pickle.loads(pickle.dumps(made)), made)
         found = yilgorza.compare("(lines 1)\n", "(lines 1)\n")
         self.assertIs(pickle.loads(pickle.dumps(found)), Ordering.EQUAL)
@@ -161,6 +184,8 @@ class Pickled(unittest.TestCase):
             texts = "(lines 1)\n", "(lines 1)\n(not 1)\n"
             future = pool.submit(yilgorza.compare, *texts)
             self.same(future.exception(timeout=60), 4, 2, 2)
+            future = pool.submit(yilgorza.join, "(lines 1)\n", "(lines 2)\n")
+            self.same(future.exception(timeout=60), 11, 0, 0)
             # The pool lives on.
             quotes = pool.map(yilgorza.quote, [text for text, _ in QUOTES], timeout=60)
             self.assertEqual(
@@ -182,7 +207,7 @@ class Names(unittest.TestCase):
             self.assertIs(names[name], getattr(yilgorza, name))
 
     def test_jobs_by_the_name_of_the_module(self):
-        for name in ("map", "reduce", "quote", "compare"):
+        for name in ("map", "reduce", "quote", "compare", "invert", "join"):
             self.assertEqual(getattr(yilgorza, name).__module__, "yilgorza")
 
     def test_version(self):
@@ -202,12 +227,13 @@ class Names(unittest.TestCase):
             self.assertEqual(hash(made), hash(copy.deepcopy(made)))
 
     def test_annotations(self):
-        for name in ("map", "reduce", "quote"):
+        for name in ("map", "reduce", "quote", "invert"):
             hints = typing.get_type_hints(getattr(yilgorza, name))
             self.assertEqual(set(hints), {"text", "return"})
-        hints = typing.get_type_hints(yilgorza.compare)
-        self.assertEqual(set(hints), {"first", "second", "return"})
-        self.assertIs(hints["return"], Ordering)
+        for job, given in ((yilgorza.compare, Ordering), (yilgorza.join, Circuit)):
+            hints = typing.get_type_hints(job)
+            self.assertEqual(set(hints), {"first", "second", "return"})
+            self.assertIs(hints["return"], given)
         self.assertEqual(
             typing.get_type_hints(yilgorza.Gate),
             {"kind": Kind, "control": typing.Optional[int], "target": int},
@@ -248,11 +274,11 @@ class Names(unittest.TestCase):
 
 class Documentation(unittest.TestCase):
     def test_examples_of_the_module(self):
-        self.assertEqual(doctest.testmod(yilgorza), (0, 3))
+        self.assertEqual(doctest.testmod(yilgorza), (0, 6))
 
     def test_examples_of_the_page(self):
         page = str(REPOSITORY / "python/README.md")
-        self.assertEqual(doctest.testfile(page, module_relative=False), (0, 21))
+        self.assertEqual(doctest.testfile(page, module_relative=False), (0, 30))
 
 
 if __name__ == "__main__":

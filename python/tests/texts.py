@@ -170,6 +170,82 @@ REDUCTIONS = [
     ),
 ]
 
+# The list that undoes TOFFOLI_MAPPED: its gates reversed, v and vp exchanged, and
+# vp 0 2 brought before v 1 2.
+TOFFOLI_UNDONE = typed(
+    "(lines 3)", "(cn 0 1)", "(vp 0 2)", "(v 1 2)", "(cn 0 1)", "(vp 1 2)"
+)
+
+# Circuits and what they are inverted to.
+INVERSES = [
+    (typed("(lines 32)"), typed("(lines 32)")),
+    (typed("(lines 1)", "(not 0)"), typed("(lines 1)", "(not 0)")),
+    (typed("(lines 2)", "(v 0 1)"), typed("(lines 2)", "(vp 0 1)")),
+    (typed("(lines 2)", "(vp 1 0)"), typed("(lines 2)", "(v 1 0)")),
+    (typed("(lines 2)", "(v 0 1)", "(v 0 1)"), typed("(lines 2)", "(cn 0 1)")),
+    (
+        typed("(lines 2)", "(not 0)", "(cn 0 1)"),
+        typed("(lines 2)", "(cn 0 1)", "(not 0)"),
+    ),
+    (
+        typed("(lines 2)", "(cn 0 1)", "(not 1)"),
+        typed("(lines 2)", "(not 1)", "(cn 0 1)"),
+    ),
+    (
+        typed("(lines 3)", "(cn 0 1)", "(v 1 2)", "(cn 2 0)"),
+        typed("(lines 3)", "(cn 2 0)", "(vp 1 2)", "(cn 0 1)"),
+    ),
+    (TOFFOLI_MAPPED, TOFFOLI_UNDONE),
+    (TOFFOLI_UNDONE, TOFFOLI_MAPPED),
+]
+
+# Pairs of circuits and what they are joined to.
+JOINS = [
+    (typed("(lines 7)"), typed("(lines 7)"), typed("(lines 7)")),
+    (
+        typed("(lines 2)", "(cn 0 1)"),
+        typed("(lines 2)", "(v 0 1)"),
+        typed("(lines 2)", "(vp 0 1)"),
+    ),
+    # The first stands before the second, unless they pass.
+    (
+        typed("(lines 2)", "(not 0)"),
+        typed("(lines 2)", "(cn 0 1)"),
+        typed("(lines 2)", "(not 0)", "(cn 0 1)"),
+    ),
+    (
+        typed("(lines 2)", "(cn 0 1)"),
+        typed("(lines 2)", "(not 0)"),
+        typed("(lines 2)", "(cn 0 1)", "(not 0)"),
+    ),
+    (
+        typed("(lines 2)", "(cn 0 1)"),
+        typed("(lines 2)", "(not 1)"),
+        typed("(lines 2)", "(not 1)", "(cn 0 1)"),
+    ),
+    (
+        typed("(lines 3)", "(cn 0 2)", "(cn 1 2)"),
+        typed("(lines 3)", "(cn 0 2)"),
+        typed("(lines 3)", "(cn 1 2)"),
+    ),
+    (
+        typed("(lines 3)"),
+        typed("(lines 3)", "(v 1 2)", "(v 1 2)"),
+        typed("(lines 3)", "(cn 1 2)"),
+    ),
+    (TOFFOLI_MAPPED, TOFFOLI_UNDONE, typed("(lines 3)")),
+    (TOFFOLI_UNDONE, TOFFOLI_MAPPED, typed("(lines 3)")),
+    # As many gates as may be.
+    *[
+        (
+            typed("(lines 1)", *["(not 0)"] * gates),
+            typed("(lines 1)", *["(not 0)"] * (4096 - gates)),
+            typed("(lines 1)"),
+        )
+        for gates in (0, 1, 2048, 4095, 4096)
+    ],
+]
+
 # Circuits in rising order, each in all the ways in which it is drawn here: by the
 # number of lines, then by the reduced lists, which document 01 gives or which are the
 # only ones with so few gates.
@@ -218,6 +294,37 @@ CIRCUIT_REFUSALS = [
     (typed("(lines 2)", "(cn -0 1)"), Number.MALFORMED, 2),
     (typed("(lines 2)", "(v 0 -1)"), Number.MALFORMED, 2),
     (typed("(lines 2)", "(not 1)", "(not -0)"), Number.MALFORMED, 3),
+]
+
+# Pairs of circuits that join turns away though each passes by itself, with number,
+# line and text: 11, and after it 9, at the first gate over.
+JOIN_REFUSALS = [
+    (typed("(lines 2)"), typed("(lines 3)"), Number.DIFFERENT_LINES, 0, 0),
+    (typed("(lines 32)"), typed("(lines 1)"), Number.DIFFERENT_LINES, 0, 0),
+    (
+        typed("(lines 1)", *["(not 0)"] * 4096),
+        typed("(lines 2)", "(not 0)"),
+        Number.DIFFERENT_LINES,
+        0,
+        0,
+    ),
+    *[
+        (
+            typed("(lines 1)", *["(not 0)"] * first),
+            typed("(lines 1)", *["(not 0)"] * second),
+            Number.TOO_MANY,
+            4096 - first + 2,
+            2,
+        )
+        for first, second in ((1, 4096), (2048, 2049), (4095, 2), (4096, 1))
+    ],
+    (
+        typed("(lines 1)", *["(not 0)"] * 4096),
+        typed("(lines 1)", *["(not 0)"] * 4096),
+        Number.TOO_MANY,
+        2,
+        2,
+    ),
 ]
 
 # Cascades that are turned away, with number and line: every number but 2 and 10,

@@ -3,7 +3,9 @@
    areas of sizes that the input chooses, and what holds of every answer is
    checked. Map is also called with an empty answer area, and has to count the same
    gates and give the same list. What reduce gives for either of two texts says all
-   that compare has to give for both. A cascade with minus signs is also given without
+   that compare has to give for both; and what it gives for both in one, all that join
+   has to give. The inverse of the inverse has to be what reduce gives, and a text
+   joined with its inverse has no gates. A cascade with minus signs is also given without
    them, and with a gate without controls for each NOT that they stand for. What rules 4
    to 8 say of each line of a cascade is worked out here too.
 
@@ -26,16 +28,17 @@
      addresses of the blocks come from a disassembly (see blocks.awk), in the
      file that the environment variable FUZZ_BLOCKS names.
    - the outcomes: number and line, and gates or count (its number of binary
-     digits), of each kind of call, for each text of compare.
+     digits), of each kind of call, for each text of compare and join.
    The harness itself is compiled without coverage.
 
    An input is four bytes of choices, a text and perhaps a second text. The first
    `%`, which no text in form has, stands between them; without one the second
    text is empty. The jobs over one text get the first.
-   byte 0: the length of the list (low four bits) and of the second text's list
-   (high four bits); byte 1 and 2: the length of the answer area; byte 3: at which
-   end of the areas the page stands (bit 0), and whether the last line of the text
-   (bits 1 to 3) and of the second text (bits 4 to 6) is repeated up to a limit.
+   byte 0: the length of the list (low four bits), which is also that of join, and of
+   the second text's list (high four bits); byte 1 and 2: the length of the answer area;
+   byte 3: at which end of the areas the page stands (bit 0), and whether the last line
+   of the text (bits 1 to 3) and of the second text (bits 4 to 6) is repeated up to a
+   limit.
    With `0000` it is lists of 4,096 records, an ample answer area and the texts as
    they stand. */
 
@@ -51,9 +54,13 @@
 #include <unistd.h>
 
 enum { LONGEST_TEXT = 60000, SHORTEST_LIST = 4096, AMPLE = 50000, BESIDE = 64 };
-/* The kinds of call: the jobs, and map with an empty answer area apart. */
-enum call { MAP, REDUCE, MAP_EMPTY_AREA, COMPARE };
-static const char *const call_names[] = { "map", "reduce", "map with an empty area", "compare" };
+/* The kinds of call: the jobs, and map with an empty answer area apart. Each refusal of
+   a second text is counted under the number that follows that of its job. */
+enum call { MAP, REDUCE, MAP_EMPTY_AREA, COMPARE, INVERT = COMPARE + 2, JOIN, CALLS = JOIN + 2 };
+static const char *const call_names[] = {
+    [MAP] = "map", [REDUCE] = "reduce", [MAP_EMPTY_AREA] = "map with an empty area",
+    [COMPARE] = "compare", [INVERT] = "invert", [JOIN] = "join",
+};
 
 static void fail(enum call call, const char *what)
 {
@@ -65,6 +72,9 @@ static void fail(enum call call, const char *what)
 static unsigned long signed_cascades;
 /* How many cascades were refused at a gate of 16 or more controls, by 8 and by 7. */
 static unsigned long wide_no_spare, wide_with_spare;
+/* How many circuits with gates were inverted, how many pairs with gates in both were
+   joined, and how many joins were refused by 11 and by a 9 of their own. */
+static unsigned long inverted, joined, joins_of_other_lines, joins_over;
 
 /* ---- Guidance ---- */
 
@@ -81,6 +91,7 @@ static void count_outcome(enum call call, uint64_t number, uint64_t line, uint64
     unsigned short_line = line < 24 ? (unsigned)line : 24;
     unsigned digits = count ? 64 - (unsigned)__builtin_clzll(count) : 0;
     unsigned feature = number ? 64 + (unsigned)number * 25 + short_line : digits;
+    _Static_assert(CALLS * 512 <= OUTCOMES, "room for all outcomes");
     counters[MOST_BLOCKS + (call + (text == 2)) * 512 + feature % 512] = 1;
 }
 
@@ -116,6 +127,8 @@ static void tell_blocks(void)
     fprintf(stderr, "fuzz: %lu cascades with a minus sign accepted\n", signed_cascades);
     fprintf(stderr, "fuzz: %lu cascades refused by 8 at 16 or more controls, %lu by 7\n", wide_no_spare,
             wide_with_spare);
+    fprintf(stderr, "fuzz: %lu circuits inverted, %lu pairs joined, %lu refused by 11, %lu by 9 together\n", inverted,
+            joined, joins_of_other_lines, joins_over);
 }
 
 int LLVMFuzzerInitialize(int *argc, char ***argv)
@@ -324,7 +337,8 @@ static void check_outcome(enum call call, const struct answer *given, size_t tex
                           size_t answer_length)
 {
     uint64_t number = given->number;
-    if (number > 10 || (call == MAP_EMPTY_AREA && number == 10) || (call == REDUCE && number >= 6 && number <= 8))
+    int of_circuit = call == REDUCE || call == INVERT;
+    if (number > 10 || (call == MAP_EMPTY_AREA && number == 10) || (of_circuit && number >= 6 && number <= 8))
         fail(call, "no such number");
     if ((text_length > LONGEST_TEXT) != (number == 1))
         fail(call, "rule 1");
@@ -340,7 +354,7 @@ static void check_outcome(enum call call, const struct answer *given, size_t tex
         fail(call, "the bytes");
 }
 
-/* Runs map or reduce. */
+/* Runs a job over one text. */
 static void run(enum call job, const uint8_t *text, size_t text_length, size_t list_length, size_t answer_length,
                 int at_front, uint8_t junk, struct answer *result)
 {
@@ -354,8 +368,8 @@ static void run(enum call job, const uint8_t *text, size_t text_length, size_t l
         memcpy(text_area.bytes, text, text_length);
     uint16_t *list = (uint16_t *)list_area.bytes;
     uint8_t *answer = answer_area.bytes;
-    (job == MAP ? yilgorza_map : yilgorza_reduce)(text_area.bytes, text_length, list, list_length, answer,
-                                                  answer_length, outcome + 1);
+    (job == MAP ? yilgorza_map : job == REDUCE ? yilgorza_reduce : yilgorza_invert)(
+        text_area.bytes, text_length, list, list_length, answer, answer_length, outcome + 1);
     if (outcome[0] != 99 || outcome[5] != 99)
         fail(call, "a word beside the outcome was written");
     result->number = outcome[1];
@@ -657,6 +671,158 @@ static struct verdict compare(const struct side *first, const struct side *secon
     return got;
 }
 
+/* ---- Joins ---- */
+
+/* The most bytes that two circuits of together 4,096 gates have in one text. */
+enum { LONGEST_JOIN = 11 * (SHORTEST_LIST + 1) };
+
+/* The gates of an accepted circuit text, as they are read. */
+static uint64_t gates_of(const uint8_t *text, size_t length)
+{
+    uint64_t lines = 0;
+    for (size_t i = 0; i < length; i++)
+        lines += text[i] == '\n';
+    return lines - 1;
+}
+
+/* The second text without its line 1, after the first. */
+static size_t put_in_one(uint8_t *to, const struct side *first, const struct side *second)
+{
+    size_t line_1 = length_of(second->text, 1);
+    memcpy(to, first->text, first->length);
+    memcpy(to + first->length, second->text + line_1, second->length - line_1);
+    return first->length + second->length - line_1;
+}
+
+/* What join has to return with an ample area, and the answer of reduce to both in one
+   where it accepts them. The list is judged with the first text. */
+static struct verdict join_due(const struct side *first, const struct side *second, struct answer *whole)
+{
+    static uint8_t text[LONGEST_JOIN];
+    static struct answer alone;
+    const struct answer *a = &first->reduced, *b = &second->reduced;
+    if (a->number)
+        return (struct verdict){ a->number, a->line, 1, 0 };
+    if (b->number == 2) {
+        run(REDUCE, second->text, second->length, SHORTEST_LIST, AMPLE, 0, 0x55, &alone);
+        b = &alone;
+    }
+    if (b->number)
+        return (struct verdict){ b->number, b->line, 2, 0 };
+    if (lines_of(first->text) != lines_of(second->text))
+        return (struct verdict){ 11, 0, 0, 0 };
+    uint64_t gates = gates_of(first->text, first->length), others = gates_of(second->text, second->length);
+    if (gates + others > SHORTEST_LIST)
+        return (struct verdict){ 9, SHORTEST_LIST - gates + 2, 2, 0 };
+    run(REDUCE, text, put_in_one(text, first, second), SHORTEST_LIST, AMPLE, 0, 0x55, whole);
+    if (whole->number)
+        fail(JOIN, "reduce refuses both in one");
+    return (struct verdict){ 0, 0, 0, whole->bytes };
+}
+
+/* Checks list and answer area: on success those of reduce, else what a refusal leaves. */
+static void check_join(const struct verdict *got, const struct answer *whole, const struct area *list_area,
+                       size_t list_length, const struct area *answer_area, uint8_t junk)
+{
+    const uint16_t *list = (const uint16_t *)list_area->bytes;
+    uint16_t rest = got->number == 1 || got->number == 2 ? (uint16_t)(junk << 8 | junk) : YILGORZA_NOT_0;
+    size_t gates = got->number ? 0 : whole->gates, bytes = got->number ? 0 : whole->bytes;
+    if (memcmp(list, whole->list, gates * sizeof *list))
+        fail(JOIN, "the list isn't that of reduce on both in one");
+    if (!all_records(list + gates, list_length - gates, rest))
+        fail(JOIN, "the records after the list");
+    if (memcmp(answer_area->bytes, whole->text, bytes))
+        fail(JOIN, "the answer isn't that of reduce on both in one");
+    if (!all_bytes(answer_area->bytes + bytes, answer_area->length - bytes, junk))
+        fail(JOIN, "the bytes after the answer");
+    if (!beside_unchanged(list_area, junk) || !beside_unchanged(answer_area, junk))
+        fail(JOIN, "bytes beside an area were written");
+}
+
+/* One join; where the two sides are one, of one text area. Gives the count. */
+static uint64_t join(const struct side *first, const struct side *second, size_t answer_length, int at_front,
+                     uint8_t junk)
+{
+    static struct answer whole;
+    struct area texts[2], list_area, answer_area;
+    const struct side *sides[2] = { first, second };
+    int areas = first == second ? 1 : 2;
+    uint64_t outcome[6] = { 99, 99, 99, 99, 99, 99 };
+    struct verdict expected = join_due(first, second, &whole);
+    if (!expected.number && expected.count > answer_length)
+        expected = (struct verdict){ 10, 0, 0, 0 };
+    for (int i = 0; i < areas; i++) {
+        lend(&texts[i], sides[i]->length, at_front, junk);
+        if (sides[i]->length)
+            memcpy(texts[i].bytes, sides[i]->text, sides[i]->length);
+    }
+    lend(&list_area, first->list_length * sizeof(uint16_t), at_front, junk);
+    lend(&answer_area, answer_length, at_front && answer_length, junk);
+    yilgorza_join(texts[0].bytes, first->length, (uint16_t *)list_area.bytes, first->list_length,
+                  texts[areas - 1].bytes, second->length, answer_area.bytes, answer_length, outcome + 1);
+    struct verdict got = { outcome[1], outcome[2], outcome[3], outcome[4] };
+    if (outcome[0] != 99 || outcome[5] != 99)
+        fail(JOIN, "a word beside the outcome was written");
+    if (memcmp(&got, &expected, sizeof got))
+        fail(JOIN, "reduce says otherwise");
+    check_join(&got, &whole, &list_area, first->list_length, &answer_area, junk);
+    take_back(&answer_area);
+    take_back(&list_area);
+    for (int i = areas - 1; i >= 0; i--) {
+        if (sides[i]->length && memcmp(texts[i].bytes, sides[i]->text, sides[i]->length))
+            fail(JOIN, "a text was changed");
+        if (!beside_unchanged(&texts[i], junk))
+            fail(JOIN, "bytes beside a text were written");
+        take_back(&texts[i]);
+    }
+    joins_of_other_lines += got.number == 11;
+    joins_over += got.number == 9 && got.line <= SHORTEST_LIST + 1;
+    joined += !got.number && gates_of(first->text, first->length) && gates_of(second->text, second->length);
+    count_outcome(JOIN, got.number, got.line, got.text, got.count);
+    return got.number ? 0 : got.count;
+}
+
+/* Two texts in both orders, each with itself, and again with an area that fits or is
+   one byte short. */
+static void joins_of_two_texts(const uint8_t *choices, const struct side *sides, int at_front, uint8_t junk)
+{
+    size_t answer_length = (choices[1] & 3) == 3 ? choices[2] : AMPLE;
+    for (int i = 0; i < 2; i++) {
+        uint64_t count = join(&sides[i], &sides[1 - i], answer_length, at_front, junk);
+        join(&sides[i], &sides[i], answer_length, at_front, junk);
+        if (count && (choices[1] & 3) == 1)
+            join(&sides[i], &sides[1 - i], count, at_front, junk);
+        if (count && (choices[1] & 3) == 2)
+            join(&sides[i], &sides[1 - i], count - 1, at_front, junk);
+    }
+}
+
+/* A text that reduce accepts and its inverse: inverted again it is what reduce gives,
+   and joined, either way round, they have no gates, unless they are too many. */
+static void check_inverse(const struct side *side, int at_front, uint8_t junk)
+{
+    static struct side inverse;
+    static struct answer answer, again;
+    const struct answer *reduced = &side->reduced;
+    run(INVERT, side->text, side->length, side->list_length, AMPLE, at_front, junk, &answer);
+    if (answer.number != reduced->number || answer.line != reduced->line || answer.gates != reduced->gates)
+        fail(INVERT, "reduce refuses otherwise, or has other gates");
+    if (answer.number)
+        return;
+    inverted += answer.gates > 0;
+    run(INVERT, answer.text, answer.bytes, side->list_length, AMPLE, at_front, junk, &again);
+    if (again.number || again.bytes != reduced->bytes || !same_list(&again, reduced)
+        || memcmp(again.text, reduced->text, reduced->bytes))
+        fail(INVERT, "the inverse of the inverse isn't the reduced list");
+    inverse = (struct side){ answer.text, answer.bytes, side->list_length, answer };
+    const struct side *sides[2] = { side, &inverse };
+    for (int i = 0; i < 2; i++) {
+        uint64_t count = join(sides[i], sides[1 - i], AMPLE, at_front, junk);
+        if (count && count != length_of(side->text, 1))
+            fail(JOIN, "a text and its inverse have gates");
+    }
+}
+
 /* ---- Inputs ---- */
 
 enum { LONGEST_INPUT = LONGEST_TEXT + 8 };
@@ -667,6 +833,10 @@ static const uint8_t *text_of(uint8_t *text, const uint8_t *data, size_t *length
 {
     size_t limit, times = 0;
     switch (choice) {
+    case 4:
+        limit = LONGEST_INPUT;
+        times = SHORTEST_LIST / 2 - 8 + detail % 16;
+        break;
     case 5:
         limit = LONGEST_INPUT;
         times = 300;
@@ -701,18 +871,20 @@ static const uint8_t *text_of(uint8_t *text, const uint8_t *data, size_t *length
 static void jobs_over_one_text(const uint8_t *choices, const uint8_t *text, size_t length, size_t list_length,
                                int at_front, uint8_t junk)
 {
-    static struct answer answers[2], empty, again;
+    static const enum call jobs[] = { MAP, REDUCE, INVERT };
+    static struct answer answers[CALLS], empty, again;
     const struct answer *mapped = &answers[MAP];
-    for (enum call job = MAP; job <= REDUCE; job++) {
+    for (size_t which = 0; which < sizeof jobs / sizeof *jobs; which++) {
+        enum call job = jobs[which];
         size_t answer_length = (choices[1] & 3) == 3 ? choices[2] : AMPLE;
         run(job, text, length, list_length, answer_length, at_front, junk, &answers[job]);
         size_t written = answers[job].bytes;
         if (!written)
             continue;
-        if (job == REDUCE && has_sign(text, length))
+        if (job != MAP && has_sign(text, length))
             fail(job, "a circuit with a minus sign");
         /* Again with the answer area fitting exactly; or one short, and the
-           shortest that is refused, which for reduce is empty. */
+           shortest that is refused, which but for map is empty. */
         if ((choices[1] & 3) == 1) {
             run(job, text, length, list_length, written, at_front, junk, &again);
             if (again.number || again.bytes != written || !same_list(&again, &answers[job]))
@@ -783,13 +955,15 @@ int LLVMFuzzerTestOneInput(const uint8_t *data, size_t size)
     uint8_t junk = (uint8_t)(data[2] | 0x20);
     jobs_over_one_text(data, sides[0].text, sides[0].length, sides[0].list_length, at_front, junk);
     job_over_two_texts(sides, at_front, junk);
+    joins_of_two_texts(data, sides, at_front, junk);
+    check_inverse(&sides[0], at_front, junk);
     return 0;
 }
 
 #ifdef REPLAY
 
 /* The corpus has more of them than that. */
-enum { FEWEST_SIGNED = 5, FEWEST_WIDE = 3 };
+enum { FEWEST_SIGNED = 5, FEWEST_WIDE = 3, FEWEST_INVERTED = 20, FEWEST_JOINED = 40, FEWEST_REFUSED = 4 };
 
 int main(int argc, char **argv)
 {
@@ -811,6 +985,12 @@ int main(int argc, char **argv)
     if (wide_no_spare < FEWEST_WIDE || wide_with_spare < FEWEST_WIDE) {
         fprintf(stderr, "fuzz: FAILED: only %lu and %lu cascades were refused at 16 or more controls\n",
                 wide_no_spare, wide_with_spare);
+        return 1;
+    }
+    if (inverted < FEWEST_INVERTED || joined < FEWEST_JOINED || joins_of_other_lines < FEWEST_REFUSED
+        || joins_over < FEWEST_REFUSED) {
+        fprintf(stderr, "fuzz: FAILED: only %lu circuits were inverted, %lu joined, %lu refused by 11, %lu by 9\n",
+                inverted, joined, joins_of_other_lines, joins_over);
         return 1;
     }
     printf("%d passed, 0 failed\n", argc - 1);

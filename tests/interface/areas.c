@@ -136,6 +136,25 @@ static int lent_two(struct side first, struct side second, uint64_t number,
            holds(second_list, second.records, number, number ? 0 : second.gates);
 }
 
+/* The same of join: whether the outcome is this one, the list holds so many gates, and
+   the answer area has the text. */
+static int lent_join(struct side first, struct side second, struct room room,
+                     uint64_t number, uint64_t line, uint64_t text, size_t gates) {
+    struct room written = {room.start, 0};
+    paint_list(list);
+    memset(answer, 0xfe, YILGORZA_ANSWER_BYTES);
+    memset(several, 0xfe, 4 * sizeof *several);
+    yilgorza_join(first.bytes, first.length, last(list, first.records), first.records,
+                  second.bytes, second.length, room.start, room.length, several);
+    written.length = several[YILGORZA_SEVERAL_COUNT];
+    return several[YILGORZA_SEVERAL_NUMBER] == number &&
+           several[YILGORZA_SEVERAL_LINE] == line &&
+           several[YILGORZA_SEVERAL_TEXT] == text &&
+           written.length <= (number ? 0 : room.length) &&
+           shows(written, number ? 0 : gates + 1) &&
+           holds(list, first.records, number, gates);
+}
+
 static void test_jobs(const uint8_t *const *bytes) {
     static const uint8_t one[] = "(lines 1)\n";
     const struct side good = {one, 10, ENOUGH, 0}, empty = {NULL, 0, ENOUGH, 0},
@@ -163,7 +182,7 @@ static void test_jobs(const uint8_t *const *bytes) {
         snprintf(name, sizeof name, "%s with pointers that are null and lengths of 0",
                  job_names[job]);
         verdict(lent(job, empty, whole, 3, 1) && lent(job, bare, whole, 2, 0) &&
-                    lent(job, good, last_bytes(0), job == REDUCE ? 10 : 0, 0) &&
+                    lent(job, good, last_bytes(0), of_circuits(job) ? 10 : 0, 0) &&
                     lent(job, none, last_bytes(0), 2, 0),
                 name);
         snprintf(name, sizeof name,
@@ -179,7 +198,8 @@ static void test_jobs(const uint8_t *const *bytes) {
 
 /* With an answer area of length 0, at no address, at the start, in the middle and at
    the end of what is painted: map gives the gates and leaves the list that it gives and
-   leaves with an area that is long enough, and reduce refuses what it would accept. */
+   leaves with an area that is long enough, and reduce and invert refuse what they
+   would accept. */
 static void test_empty_areas(const uint8_t *const *bytes) {
     static uint16_t left[RECORDS];
     const struct room whole = last_bytes(YILGORZA_ANSWER_BYTES);
@@ -191,16 +211,18 @@ static void test_empty_areas(const uint8_t *const *bytes) {
 
     for (int i = 0; i < TEXTS; i++) {
         struct side s = {bytes[i], texts[i].length, RECORDS, texts[i].gates};
-        uint64_t mapped[3], reduced[3];
+        uint64_t mapped[3], reduced[3], refused;
         int good;
         expected(MAP, &texts[i], mapped);
         expected(REDUCE, &texts[i], reduced);
+        refused = reduced[0] ? reduced[0] : 10;
         good = lent(MAP, s, whole, mapped[0], mapped[1]);
         memcpy(left, list, sizeof left);
         for (int r = 0; r < 4; r++)
             good &= lent(MAP, s, rooms[r], mapped[0], mapped[1]) &&
                     memcmp(left, list, sizeof left) == 0 &&
-                    lent(REDUCE, s, rooms[r], reduced[0] ? reduced[0] : 10, reduced[1]);
+                    lent(REDUCE, s, rooms[r], refused, reduced[1]) &&
+                    lent(INVERT, s, rooms[r], refused, reduced[1]);
         snprintf(name, sizeof name, "%s, with an answer area of length 0",
                  texts[i].name);
         verdict(good, name);
@@ -258,6 +280,68 @@ static void test_compare(const uint8_t *const *bytes) {
             "compare of one text with itself, from one area");
 }
 
+static void test_join(const uint8_t *const *bytes) {
+    static const uint8_t long_text[YILGORZA_TEXT_BYTES + 1] = "(";
+    static const uint8_t one[] = "(lines 1)\n", two[] = "(lines 2)\n";
+    const struct side none = {NULL, 0, 0, 0}, empty = {NULL, 0, ENOUGH, 0},
+                      overlong = {long_text, sizeof long_text, ENOUGH, 0},
+                      good = {one, 10, ENOUGH, 0}, bare = {one, 10, 0, 0},
+                      shorter = {one, 10, ENOUGH - 1, 0},
+                      longer = {one, 10, RECORDS, 0}, tiny = {NULL, 0, 10, 0},
+                      other = {two, 10, ENOUGH, 0};
+    const struct room whole = last_bytes(YILGORZA_ANSWER_BYTES);
+    char name[120];
+    int i, j;
+
+    for (i = 0; i < TEXTS; i++) {
+        int all = 1;
+        for (j = 0; j < TEXTS; j++) {
+            struct side a = {bytes[i], texts[i].length, ENOUGH, 0};
+            struct side b = {bytes[j], texts[j].length, 0, 0};
+            uint64_t e[4];
+            size_t gates = joined(&texts[i], &texts[j], e);
+            all &= lent_join(a, b, whole, e[0], e[1], e[2], gates);
+            a.records = RECORDS;
+            all &= lent_join(a, b, whole, e[0], e[1], e[2], gates);
+            /* With no room, at any address, 10 comes after every other number. */
+            all &= lent_join(a, b, last_bytes(0), e[0] ? e[0] : 10, e[1], e[2], 0);
+            struct room middle = {answer + YILGORZA_ANSWER_BYTES / 2, 0};
+            all &= lent_join(a, b, middle, e[0] ? e[0] : 10, e[1], e[2], 0);
+        }
+        snprintf(name, sizeof name, "join of %s with every text", texts[i].name);
+        verdict(all, name);
+    }
+
+    verdict(lent_join(empty, good, whole, 3, 1, 1, 0) &&
+                lent_join(good, empty, whole, 3, 1, 2, 0) &&
+                lent_join(bare, good, whole, 2, 0, 1, 0) &&
+                lent_join(none, none, last_bytes(0), 2, 0, 1, 0) &&
+                lent_join(empty, none, last_bytes(0), 3, 1, 1, 0),
+            "join with pointers that are null and lengths of 0");
+    verdict(lent_join(good, good, last_bytes(1), 10, 0, 0, 0) &&
+                lent_join(good, good, last_bytes(9), 10, 0, 0, 0) &&
+                lent_join(good, good, last_bytes(10), 0, 0, 0, 0) &&
+                lent_join(longer, good, last_bytes(10), 0, 0, 0, 0),
+            "join with an area of one byte, too short by one, and just long enough");
+    verdict(lent_join(shorter, good, whole, 2, 0, 1, 0) &&
+                lent_join(tiny, good, whole, 2, 0, 1, 0) &&
+                lent_join(shorter, overlong, whole, 2, 0, 1, 0) &&
+                lent_join(overlong, good, whole, 1, 0, 1, 0) &&
+                lent_join(good, overlong, whole, 1, 0, 2, 0) &&
+                lent_join(longer, overlong, whole, 1, 0, 2, 0),
+            "join with a list or a text of a wrong length, the list left as it is");
+    verdict(lent_join(empty, overlong, whole, 3, 1, 1, 0) &&
+                lent_join(longer, empty, whole, 3, 1, 2, 0),
+            "join with a line refused, `not 0` in all of the list");
+    verdict(lent_join(good, other, whole, 11, 0, 0, 0) &&
+                lent_join(other, longer, whole, 11, 0, 0, 0) &&
+                lent_join(longer, other, last_bytes(0), 11, 0, 0, 0),
+            "join on different numbers of lines, `not 0` in all of the list");
+    struct side it = {bytes[34], texts[34].length, ENOUGH, 0}, same = it;
+    verdict(lent_join(it, same, whole, 0, 0, 0, 4096),
+            "join of one text with itself, from one area");
+}
+
 int main(void) {
     const uint8_t *bytes[TEXTS];
     list = area(RECORDS * sizeof *list);
@@ -271,5 +355,6 @@ int main(void) {
     test_jobs(bytes);
     test_empty_areas(bytes);
     test_compare(bytes);
+    test_join(bytes);
     return counts();
 }

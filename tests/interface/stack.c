@@ -14,9 +14,10 @@
 enum { STATED = 96 * 1024, STACK = 2 * STATED };
 
 /* The functions: the jobs over one text, and these. */
-enum { COMPARE = JOBS, GATE, FUNCTIONS };
+enum { COMPARE = JOBS, JOIN, GATE, FUNCTIONS };
 
-static const char *const names[] = {"map", "reduce", "quote only", "compare", "gate"};
+static const char *const names[] = {"map",     "reduce", "invert", "quote only",
+                                    "compare", "join",   "gate"};
 
 static uint16_t list[YILGORZA_LIST_RECORDS], second_list[YILGORZA_LIST_RECORDS];
 static uint8_t answer[YILGORZA_ANSWER_BYTES];
@@ -38,6 +39,10 @@ static void call(void) {
         yilgorza_compare(read_text->bytes, read_text->length, list, list_len,
                          second_text->bytes, second_text->length, second_list,
                          second_list_len, outcome);
+    else if (function == JOIN)
+        yilgorza_join(read_text->bytes, read_text->length, list, list_len,
+                      second_text->bytes, second_text->length, answer, answer_len,
+                      outcome);
     else
         do_job(function, read_text->bytes, read_text->length, list, list_len, answer,
                answer_len, outcome);
@@ -117,6 +122,31 @@ static size_t most_of_compare(void) {
     return most;
 }
 
+/* The most of join over all pairs of texts, with a list and an area that are long
+   enough, and with either of them too short. */
+static size_t most_of_join(void) {
+    size_t most = 0;
+    for (int i = 0; i < TEXTS * TEXTS; i++) {
+        uint64_t numbers[4];
+        read_text = &texts[i / TEXTS];
+        second_text = &texts[i % TEXTS];
+        list_len = YILGORZA_LIST_RECORDS;
+        answer_len = YILGORZA_ANSWER_BYTES;
+        most = larger(most, used());
+        joined(read_text, second_text, numbers);
+        if (memcmp(outcome, numbers, 3 * sizeof *numbers)) {
+            verdict(0, read_text->name);
+            return 0;
+        }
+        list_len--;
+        most = larger(most, used());
+        list_len++;
+        answer_len = 0;
+        most = larger(most, used());
+    }
+    return most;
+}
+
 int main(void) {
     size_t page = sysconf(_SC_PAGESIZE), most;
     char name[80];
@@ -131,6 +161,7 @@ int main(void) {
     for (function = 0; function < FUNCTIONS; function++) {
         most = function == GATE      ? used()
                : function == COMPARE ? most_of_compare()
+               : function == JOIN    ? most_of_join()
                                      : most_of_job();
         snprintf(name, sizeof name, "%s takes at most %zu bytes of stack",
                  names[function], most);

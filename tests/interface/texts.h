@@ -10,19 +10,21 @@
 
 #include "yilgorza.h"
 
-/* A text, and the number and the line with which each job over one text answers it.
-   One that is accepted also has the number of gates of its reduced list, and a
-   circuit its place in the order of compare, the same for two that are one circuit. */
+/* A text, and the number and the line with which each job over one text answers it,
+   invert as reduce. One that is accepted also has the number of gates of its reduced
+   list, of which the inverse has as many; and a circuit its place in the order of
+   compare, the same for two that are one circuit, its number of lines, and its number
+   of gates as read. */
 struct text {
     const char *name;
     uint8_t bytes[YILGORZA_TEXT_BYTES + 1];
     size_t length;
     uint64_t mapped[2], reduced[2];
-    int place;
-    size_t gates;
+    int place, lines;
+    size_t gates, read;
 };
 
-enum { TEXTS = 34 };
+enum { TEXTS = 36 };
 static struct text texts[TEXTS];
 
 static void add(struct text *t, const char *words) {
@@ -80,14 +82,14 @@ static void make_texts(void) {
     for (i = 0; i < 256; i++)
         add(t, "(mct (27 28 29 30) 31)\n");
     /* No two neighbours pass or merge, so nothing gets shorter. */
-    t = circuit(3, "4,096 gates that stay", 9, 4096);
+    t = circuit(3, "4,096 gates that stay", 11, 4096);
     add(t, "(lines 32)\n");
     for (i = 0; i < 4096; i++)
         add(t, i % 2 ? "(vp 31 30)\n" : "(vp 30 31)\n");
     /* Each of the last gates passes all others, and four of a kind vanish. Of the
        others none passes so far that it meets its like. The list begins with
        cn 30 31, which comes before vp 30 31. */
-    t = circuit(4, "4,096 gates, half of which travel", 8, 2048);
+    t = circuit(4, "4,096 gates, half of which travel", 9, 2048);
     add(t, "(lines 32)\n");
     for (i = 0; i < 512; i++)
         add(t, "(cn 30 31)\n(cn 31 30)\n(v 30 5)\n(v 6 30)\n");
@@ -156,19 +158,42 @@ static void make_texts(void) {
     add(text(33, "31 controls on 32 lines", 8, 2, 3, 2),
         "(lines 32)\n(mct (0 1 2 3 4 5 6 7 8 9 10 11 12 13 14 15 16 17 18 19 20 21 22 23 "
         "24 25 26 27 28 29 30) 31)\n");
+    /* The front half of 3, and its inverse, which begins with target 30. Joined they
+       are as long as may be, and one after the other vanishes. */
+    t = circuit(34, "2,048 gates that stay", 10, 2048);
+    add(t, "(lines 32)\n");
+    for (i = 0; i < 2048; i++)
+        add(t, i % 2 ? "(vp 31 30)\n" : "(vp 30 31)\n");
+    t = circuit(35, "2,048 gates that undo these", 8, 2048);
+    add(t, "(lines 32)\n");
+    for (i = 0; i < 2048; i++)
+        add(t, i % 2 ? "(v 30 31)\n" : "(v 31 30)\n");
+
+    for (t = texts; t < texts + TEXTS; t++)
+        if (t->reduced[0] == 0) {
+            t->lines = atoi((const char *)t->bytes + 7);
+            for (size_t byte = 0; byte < t->length; byte++)
+                t->read += t->bytes[byte] == '\n';
+            t->read--;
+        }
 }
 
 /* The jobs over one text with one signature, and map for the quote only, which is
    lent no byte of the answer area. */
-enum job { MAP, REDUCE, QUOTE, JOBS };
+enum job { MAP, REDUCE, INVERT, QUOTE, JOBS };
 
-static const char *const job_names[] = {"map", "reduce", "quote only"};
+static const char *const job_names[] = {"map", "reduce", "invert", "quote only"};
+
+/* Whether the job takes circuits. */
+static int of_circuits(enum job job) { return job == REDUCE || job == INVERT; }
 
 static void do_job(enum job job, const uint8_t *text, size_t text_len,
                    uint16_t *list, size_t list_len, uint8_t *answer,
                    size_t answer_len, uint64_t *outcome) {
     if (job == REDUCE)
         yilgorza_reduce(text, text_len, list, list_len, answer, answer_len, outcome);
+    else if (job == INVERT)
+        yilgorza_invert(text, text_len, list, list_len, answer, answer_len, outcome);
     else
         yilgorza_map(text, text_len, list, list_len, answer,
                      job == QUOTE ? 0 : answer_len, outcome);
@@ -177,7 +202,7 @@ static void do_job(enum job job, const uint8_t *text, size_t text_len,
 /* The number, the line and the gates that the text is to get from the job, with a list
    and an area that are long enough. */
 static void expected(enum job job, const struct text *t, uint64_t *numbers) {
-    const uint64_t *given = job == REDUCE ? t->reduced : t->mapped;
+    const uint64_t *given = of_circuits(job) ? t->reduced : t->mapped;
     numbers[YILGORZA_NUMBER] = given[0];
     numbers[YILGORZA_LINE] = given[1];
     numbers[YILGORZA_GATES] = given[0] ? 0 : t->gates;
@@ -201,6 +226,42 @@ static void compared(const struct text *first, const struct text *second,
     numbers[YILGORZA_SEVERAL_LINE] = text ? refused->reduced[1] : 0;
     numbers[YILGORZA_SEVERAL_TEXT] = text;
     numbers[YILGORZA_SEVERAL_COUNT] = text ? 0 : order(first, second);
+}
+
+/* The gates of the join of two circuits that can be joined. On 32 lines these are 34
+   and 35: a circuit and its inverse vanish, one twice stays. */
+static size_t joined_gates(const struct text *first, const struct text *second) {
+    /* Of 15 to 20, all on three lines, by hand: no gates; not 0; not 0, cn 0 1; not 0,
+       cn 0 1, not 0; and cn 1 2, drawn twice. */
+    static const size_t small[6][6] = {{0, 1, 2, 3, 1, 1}, {1, 0, 1, 2, 2, 2},
+                                       {2, 3, 4, 5, 3, 3}, {3, 2, 1, 0, 4, 4},
+                                       {1, 2, 3, 4, 0, 0}, {1, 2, 3, 4, 0, 0}};
+    if (first->lines == 3)
+        return small[first - texts - 15][second - texts - 15];
+    if (first->lines == 32)
+        return first == second ? 4096 : 0;
+    return 0;
+}
+
+/* The number, the line and the text that two texts are to get from join, with a list
+   and an area that are long enough, and the gates of the join: a refusal as from
+   compare, else 11, else 9 at the first gate over. */
+static size_t joined(const struct text *first, const struct text *second,
+                     uint64_t *numbers) {
+    compared(first, second, numbers);
+    if (numbers[YILGORZA_SEVERAL_NUMBER])
+        return 0;
+    if (first->lines != second->lines) {
+        numbers[YILGORZA_SEVERAL_NUMBER] = 11;
+        return 0;
+    }
+    if (first->read + second->read > 4096) {
+        numbers[YILGORZA_SEVERAL_NUMBER] = 9;
+        numbers[YILGORZA_SEVERAL_LINE] = 4096 - first->read + 2;
+        numbers[YILGORZA_SEVERAL_TEXT] = 2;
+        return 0;
+    }
+    return joined_gates(first, second);
 }
 
 static int passed, failed;

@@ -6,8 +6,8 @@
 
 #include "texts.h"
 
-/* The jobs over one text, and compare of a text with the next. */
-enum { COMPARE = JOBS, ALL_JOBS };
+/* The jobs over one text, and compare and join of a text with the next. */
+enum { COMPARE = JOBS, JOIN, ALL_JOBS };
 
 enum { THREADS = 2, ROUNDS = 60, CALLS = ALL_JOBS * TEXTS };
 
@@ -34,6 +34,9 @@ static void answer_one(int call, struct lent *l) {
         yilgorza_compare(t->bytes, t->length, l->list, YILGORZA_LIST_RECORDS, n->bytes,
                          n->length, l->second_list, YILGORZA_LIST_RECORDS,
                          l->outcome);
+    else if (job_of(call) == JOIN)
+        yilgorza_join(t->bytes, t->length, l->list, YILGORZA_LIST_RECORDS, n->bytes,
+                      n->length, l->answer, YILGORZA_ANSWER_BYTES, l->outcome);
     else
         do_job(job_of(call), t->bytes, t->length, l->list, YILGORZA_LIST_RECORDS,
                l->answer, YILGORZA_ANSWER_BYTES, l->outcome);
@@ -43,7 +46,10 @@ static void answer_one(int call, struct lent *l) {
 static int is_expected(int call, const uint64_t *outcome) {
     uint64_t numbers[4];
     if (job_of(call) != COMPARE) {
-        expected(job_of(call), text_of(call), numbers);
+        if (job_of(call) == JOIN)
+            joined(text_of(call), next_of(call), numbers);
+        else
+            expected(job_of(call), text_of(call), numbers);
         return memcmp(outcome, numbers, 3 * sizeof *numbers) == 0;
     }
     compared(text_of(call), next_of(call), numbers);

@@ -1,8 +1,11 @@
-/* Compares the programs map and reduce with the simulator libquantum, on seeded
-   random cascades and circuits of up to six lines, from each of the 2^n starts:
-   the circuit that map writes has to end in the cascade's pattern with amplitude
-   1, and the circuit that reduce writes has to end in the amplitudes of its
-   input. Some short cascades on seven and eight lines are among them: there,
+/* Compares the programs map, reduce, invert and join with the simulator libquantum,
+   on seeded random cascades and circuits of up to six lines, from each of the 2^n
+   starts: the circuit that map writes has to end in the cascade's pattern with
+   amplitude 1, and the circuit that reduce writes has to end in the amplitudes of its
+   input. The circuit that invert writes, run after its input and before it, has to
+   end in the start with amplitude 1, and join has to write no gates for the two, in
+   either order. The circuit that join writes for two others has to end in the
+   amplitudes of the first and then the second. Some short cascades on seven and eight lines are among them: there,
    and not below, a half of the controls is itself made from four smaller gates. A
    third of the cascades have no negated controls, in a third any of them are, and in
    a third all.
@@ -29,6 +32,10 @@
 
 enum { USUAL_LINES = 6, ALL_STARTS_LINES = 8, MOST_LINES = 13, MOST_GATES = 4096, MOST_MCTS = 16 };
 enum { CASCADES = 1200, CIRCUITS = 400, SOME_STARTS = 24 };
+enum { INVERSES = 240, JOINS = 240 };
+/* Starts that a circuit does not leave as they were, and joins of which the other order
+   has other amplitudes. */
+enum { FEWEST_MOVED = 3000, FEWEST_ORDERED = 120 };
 /* Controls and unnamed lines of the wide gates, and how many cascades they make: one
    for each way of signs. */
 enum { FEWEST_CONTROLS = 5, MOST_CONTROLS = 9, MOST_UNNAMED = 4, WIDE_CASCADES = 57 };
@@ -104,11 +111,11 @@ static void wide_cascade(struct cascade *cascade, int lines, int k, enum signs s
     }
 }
 
-static void random_circuit(struct circuit *circuit)
+/* A circuit of fewer gates than `most`. */
+static void random_circuit(struct circuit *circuit, int lines, int most)
 {
-    int lines = 1 + below(USUAL_LINES);
     circuit->lines = lines;
-    circuit->count = below(below(4) ? 25 : 90);
+    circuit->count = below(most);
     for (int i = 0; i < circuit->count; i++) {
         struct gate *gate = &circuit->gates[i];
         gate->target = below(lines);
@@ -162,12 +169,30 @@ static void write_circuit(FILE *file, const struct circuit *circuit)
     }
 }
 
-/* Runs a program on the text in the file and reads the circuit that it writes;
-   0 if it writes none. */
-static int run(const char *directory, const char *program, const char *file, struct circuit *answer)
+static void write_file(const char *file, const struct cascade *cascade, const struct circuit *circuit)
 {
-    char command[4096], line[64], word[8], end[3];
-    snprintf(command, sizeof command, "'%s/%s' < '%s'", directory, program, file);
+    FILE *text = fopen(file, "w");
+    if (!text) {
+        perror(file);
+        exit(1);
+    }
+    if (cascade)
+        write_cascade(text, cascade);
+    else
+        write_circuit(text, circuit);
+    fclose(text);
+}
+
+/* Runs a program on the text in the file, or on those in two, and reads the circuit
+   that it writes; 0 if it writes none. */
+static int run(const char *directory, const char *program, const char *file, const char *other,
+               struct circuit *answer)
+{
+    char command[3 * 4096], line[64], word[8], end[3];
+    if (other)
+        snprintf(command, sizeof command, "'%s/%s' '%s' '%s'", directory, program, file, other);
+    else
+        snprintf(command, sizeof command, "'%s/%s' < '%s'", directory, program, file);
     FILE *pipe = popen(command, "r");
     if (!pipe)
         return 0;
@@ -247,8 +272,8 @@ static unsigned run_cascade(const struct cascade *cascade, unsigned pattern)
 }
 
 static struct cascade cascade;
-static struct circuit circuit, answer;
-static long passed, failed, starts, flips, negated, plain;
+static struct circuit circuit, answer, second, whole;
+static long passed, failed, starts, flips, negated, plain, moved, ordered;
 
 static void count(int good, const char *what, const char *file)
 {
@@ -302,21 +327,12 @@ static unsigned chosen_start(int lines, unsigned which)
 static void one_case(int is_cascade, const char *directory, const char *file)
 {
     static complex double got[1 << MOST_LINES], expected[1 << MOST_LINES];
-    FILE *text = fopen(file, "w");
-    if (!text) {
-        perror(file);
-        exit(1);
-    }
-    if (is_cascade) {
+    if (is_cascade)
         count_signs();
-        write_cascade(text, &cascade);
-    } else {
-        write_circuit(text, &circuit);
-    }
-    fclose(text);
+    write_file(file, is_cascade ? &cascade : NULL, &circuit);
     const char *program = is_cascade ? "map" : "reduce";
     int lines = is_cascade ? cascade.lines : circuit.lines;
-    int good = run(directory, program, file, &answer) && answer.lines == lines;
+    int good = run(directory, program, file, NULL, &answer) && answer.lines == lines;
     unsigned count_of_starts = lines <= ALL_STARTS_LINES ? 1u << lines : SOME_STARTS;
     for (unsigned which = 0; good && which < count_of_starts; which++, starts++) {
         unsigned start = chosen_start(lines, which);
@@ -350,14 +366,104 @@ static int wide_cases(const char *directory, const char *file)
     return cases;
 }
 
+/* One circuit and then another, which have the same lines. */
+static const struct circuit *one_after_the_other(const struct circuit *a, const struct circuit *b)
+{
+    whole.lines = a->lines;
+    whole.count = a->count + b->count;
+    memcpy(whole.gates, a->gates, (size_t)a->count * sizeof *a->gates);
+    memcpy(whole.gates + a->count, b->gates, (size_t)b->count * sizeof *b->gates);
+    return &whole;
+}
+
+/* Whether the circuit ends in this start with amplitude 1. */
+static int stays(const struct circuit *circuit, unsigned start)
+{
+    static complex double got[1 << USUAL_LINES], expected[1 << USUAL_LINES];
+    for (int pattern = 0; pattern < 1 << circuit->lines; pattern++)
+        expected[pattern] = 0;
+    expected[start] = 1;
+    simulate(circuit, start, got);
+    return close_to(got, expected, circuit->lines);
+}
+
+/* Whether two circuits end in the same amplitudes from every start. */
+static int same(const struct circuit *a, const struct circuit *b)
+{
+    static complex double of_a[1 << USUAL_LINES], of_b[1 << USUAL_LINES];
+    int good = 1;
+    for (unsigned start = 0; good && start < 1u << a->lines; start++) {
+        simulate(a, start, of_a);
+        simulate(b, start, of_b);
+        good = close_to(of_a, of_b, a->lines);
+    }
+    return good;
+}
+
+/* The circuit, and what invert writes for it: one after the other, either way round,
+   every start stays; and join writes no gates for them. */
+static void inverse_case(const char *directory, const char *file, const char *other)
+{
+    write_file(file, NULL, &circuit);
+    int good = run(directory, "invert", file, NULL, &second) && second.lines == circuit.lines
+        && second.count <= circuit.count;
+    for (unsigned start = 0; good && start < 1u << circuit.lines; start++, starts++) {
+        moved += !stays(&circuit, start);
+        good = stays(one_after_the_other(&circuit, &second), start)
+            && stays(one_after_the_other(&second, &circuit), start);
+    }
+    count(good, "invert", file);
+    write_file(other, NULL, &second);
+    good = run(directory, "join", file, other, &answer) && answer.lines == circuit.lines && answer.count == 0
+        && run(directory, "join", other, file, &answer) && answer.lines == circuit.lines && answer.count == 0;
+    count(good, "join with the inverse", file);
+}
+
+/* What join writes acts as the first circuit and then the second. */
+static void join_case(const char *directory, const char *file, const char *other)
+{
+    write_file(file, NULL, &circuit);
+    write_file(other, NULL, &second);
+    int good = run(directory, "join", file, other, &answer) && answer.lines == circuit.lines
+        && answer.count <= circuit.count + second.count && same(&answer, one_after_the_other(&circuit, &second));
+    starts += 1 << circuit.lines;
+    count(good, "join, the first of two texts", file);
+    ordered += !same(&answer, one_after_the_other(&second, &circuit));
+}
+
+static void inverses_and_joins(const char *directory, const char *file, const char *other)
+{
+    starts = 0;
+    for (int i = 0; i < INVERSES; i++) {
+        int lines = 1 + below(USUAL_LINES);
+        random_circuit(&circuit, lines, below(4) ? 25 : 60);
+        inverse_case(directory, file, other);
+    }
+    printf("simulator: invert: %d circuits, %ld starts, of which the circuit moves %ld\n", INVERSES, starts, moved);
+    starts = 0;
+    for (int i = 0; i < JOINS; i++) {
+        int lines = 1 + below(USUAL_LINES);
+        random_circuit(&circuit, lines, below(4) ? 25 : 60);
+        random_circuit(&second, lines, below(4) ? 25 : 60);
+        join_case(directory, file, other);
+    }
+    printf("simulator: join: %d pairs, %ld starts, %ld pairs that act otherwise in the other order\n", JOINS, starts,
+           ordered);
+    if (moved < FEWEST_MOVED || ordered < FEWEST_ORDERED) {
+        printf("simulator: FAILED: too few circuits that do something\n");
+        failed++;
+    }
+}
+
 int main(int argc, char **argv)
 {
     if (argc != 3) {
         fprintf(stderr, "usage: simulator PROGRAM_DIRECTORY SCRATCH_DIRECTORY\n");
         return 2;
     }
-    char file[4096];
+    char file[4096], other[4096];
     snprintf(file, sizeof file, "%s/simulator.text", argv[2]);
+    snprintf(other, sizeof other, "%s/simulator.other", argv[2]);
     for (int i = 0; i < CASCADES; i++) {
         random_cascade(&cascade, (enum signs)(i % 3));
         one_case(1, argv[1], file);
@@ -378,10 +484,12 @@ int main(int argc, char **argv)
     }
     starts = 0;
     for (int i = 0; i < CIRCUITS; i++) {
-        random_circuit(&circuit);
+        int lines = 1 + below(USUAL_LINES);
+        random_circuit(&circuit, lines, below(4) ? 25 : 90);
         one_case(0, argv[1], file);
     }
     printf("simulator: reduce: %d circuits, %ld starts\n", CIRCUITS, starts);
+    inverses_and_joins(argv[1], file, other);
     printf("%ld passed, %ld failed\n", passed, failed);
     return passed > 0 && failed == 0 ? 0 : 1;
 }

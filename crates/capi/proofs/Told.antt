@@ -1,5 +1,5 @@
 -- What the C functions promise follows from what is handed over to them, and it leaves no choice. Assumes nothing.
-use mathlib.Core.Path.{_≡_, refl, sym, ap, subst, _∙_}
+use mathlib.Core.Path.{_≡_, refl, sym, ap, _∙_}
 use mathlib.Core.Bool.{Bool, true, false, cond}
 use mathlib.Core.List.{List, [], _∷_, _++_}
 use Prim.Native.Nat.{ℕ, zero, suc, _-_}
@@ -13,6 +13,7 @@ use Rattle.gates.specs.Code.{assembled, gate, gates, Code, AllCodes}
 use Rattle.gates.proofs.Codes.{code-not, code-code}
 use Rattle.gates.proofs.CodeLists.{length-gates, gates-append, gates-drop, code-gates, all-codes-append}
 use Rattle.records.specs.declared.Done.{Done}
+use Rattle.records.specs.declared.DoneText.{DoneText}
 use Rattle.records.specs.declared.DoneTwo.{DoneTwo}
 use Rattle.records.specs.declared.Filling.{Filling}
 use Rattle.records.specs.Records as R
@@ -20,11 +21,15 @@ use Rattle.records.specs.Records.{filled-by}
 use Rattle.habits.specs.Habits as habits
 use Rattle.habits.specs.Demands.{One}
 use Rattle.jobs.specs.Jobs.{Job, Exit}
-use Rattle.jobs.specs.Handing.{exit-of, Said, limit-of, Settles, Hands, HandsTwo}
+use Rattle.jobs.specs.Handing.{limit-of, Settles, HandsOne, HandsText, HandsTwo}
 use Rattle.jobs.proofs.One.{says-one}
+use Rattle.inversion.specs.Invert.{Invert}
+use Rattle.inversion.proofs.One.{invert-one}
+use Rattle.joins.specs.Join.{Join}
+use Rattle.joins.proofs.One.{join-one}
 use Rattle.comparison.specs.Compare.{Compare}
 use Rattle.comparison.proofs.One.{compare-one}
-use Rattle.capi.specs.Exported.{codes, not-0, numbers, four, front, written, stored, Tells, TellsTwo}
+use Rattle.capi.specs.Exported.{codes, not-0, numbers, four, front, written, stored, TellsOne, Tells, TellsText, TellsTwo}
 
 -- ---- the number of `not 0`
 
@@ -76,12 +81,22 @@ module _ (number : ℕ) (f : Filling) (l : List ℕ) (w : Settles number (length
       go false false e = coded e
 
 -- what a job hands over, written into the list and the outcome
-pub told : {j : Job} {s l a : List ℕ} {d : Done} {o l′ a′ : List ℕ} → Hands j s (length l) a d a′
-    → (l′ ≡ stored (d .filling) l) × (o ≡ four (d .outcome .number) (d .outcome .line) (d .outcome .gates) (d .outcome .bytes)) → Tells j s l a o l′ a′
-told {j} {s} {l} {a} {d} {a′ = a′} w over = rw (over .0, over .1) (record {
+pub told : {Says : List Gate → Exit → Type 0} {l : List ℕ} {d : Done} {o l′ a′ : List ℕ} → HandsOne Says (length l) d a′
+    → (l′ ≡ stored (d .filling) l) × (o ≡ four (d .outcome .number) (d .outcome .line) (d .outcome .gates) (d .outcome .bytes)) → TellsOne Says l o l′ a′
+told {l = l} {d} w over = rw (over .0, over .1) (record {
   answer = d .outcome;
   outcome = refl;
-  said = subst (λ (r : List Gate). Said j s (gates l) a (d .outcome) r a′) (sym (gates-stored (d .outcome .number) (d .filling) l (w .settles))) (w .tells (gates l) (length-gates l));
+  said = rw (gates-stored (d .outcome .number) (d .filling) l (w .settles)) (w .tells (gates l) (length-gates l));
+  list = stored-numbers (d .outcome .number) (d .filling) l (w .settles);
+})
+
+-- the same of a job over several texts and one list
+pub told-text : {Says : List Gate → habits.Exit → Type 0} {l : List ℕ} {d : DoneText} {o l′ a′ : List ℕ} → HandsText Says (length l) d a′
+    → (l′ ≡ stored (d .filling) l) × (o ≡ four (d .outcome .number) (d .outcome .line) (d .outcome .text) (d .outcome .count)) → TellsText Says l o l′ a′
+told-text {l = l} {d} w over = rw (over .0, over .1) (record {
+  answer = d .outcome;
+  outcome = refl;
+  said = rw (gates-stored (d .outcome .number) (d .filling) l (w .settles)) (w .tells (gates l) (length-gates l));
   list = stored-numbers (d .outcome .number) (d .filling) l (w .settles);
 })
 
@@ -100,32 +115,53 @@ told-two {Says} {l} {k} {d} w over = rw (over .0, over .1, over .2) (record {
 
 -- ---- the promise settles all that is lent: whatever keeps it leaves the same outcome, the same list and the same area
 
-module _ (j : Job) (s l a : List ℕ) where
-  -- the exit that the job's contract allows
-  only : {o l′ a′ : List ℕ} (t : Tells j s l a o l′ a′) → exit-of (t .answer) (gates l′) a′ ≡ says-one j (record { text = s; list = gates l; area = a }) .0
-  only {l′ = l′} {a′} t = says-one j (record { text = s; list = gates l; area = a }) .2 (exit-of (t .answer) (gates l′) a′) (t .said)
-
-  pub tells-one : {o l′ a′ p m b : List ℕ} → Tells j s l a o l′ a′ → Tells j s l a p m b → (o ≡ p) × (l′ ≡ m) × (a′ ≡ b)
-  tells-one t u =
-      let e = only t ∙ sym (only u) in (
+-- of a job whose contract allows exactly one exit
+module _ {Says : List Gate → Exit → Type 0} (l : List ℕ) (one : One (Says (gates l))) where
+  pub tells-one-one : {o l′ a′ p m b : List ℕ} → TellsOne Says l o l′ a′ → TellsOne Says l p m b → (o ≡ p) × (l′ ≡ m) × (a′ ≡ b)
+  tells-one-one t u =
+      let e = one .2 _ (t .said) ∙ sym (one .2 _ (u .said)) in (
         t .outcome ∙ ap (λ (x : Exit). four (x .number) (x .line) (x .gates) (x .bytes)) e ∙ sym (u .outcome),
         t .list ∙ ap (λ (x : Exit). numbers (x .number) l (x .list)) e ∙ sym (u .list),
         ap (λ (x : Exit). x .area) e,
       )
 
+-- so do those of map and reduce, and of invert
+pub tells-one : (j : Job) (s l a : List ℕ) {o l′ a′ p m b : List ℕ} → Tells j s l a o l′ a′ → Tells j s l a p m b → (o ≡ p) × (l′ ≡ m) × (a′ ≡ b)
+tells-one j s l a = tells-one-one l (says-one j (record { text = s; list = gates l; area = a }))
+
+pub invert-tells-one : (s l a : List ℕ) {o l′ a′ p m b : List ℕ} → TellsOne (λ k x. Invert (record { text = s; list = k; area = a }) x) l o l′ a′ → TellsOne (λ k x. Invert (record { text = s; list = k; area = a }) x) l p m b → (o ≡ p) × (l′ ≡ m) × (a′ ≡ b)
+invert-tells-one s l a = tells-one-one l (invert-one (record { text = s; list = gates l; area = a }))
+
+-- the list of that number of those lent to a job over several texts
+listed : ℕ → habits.Exit → List Gate
+listed i x = getD (x .lent .lists) i []
+
+-- of a job over several texts and one list
+module _ {Says : List Gate → habits.Exit → Type 0} (l : List ℕ) (one : One (Says (gates l))) where
+  pub tells-text-one : {o l′ a′ p m b : List ℕ} → TellsText Says l o l′ a′ → TellsText Says l p m b → (o ≡ p) × (l′ ≡ m) × (a′ ≡ b)
+  unfolding listed
+  tells-text-one t u =
+      let e = one .2 _ (t .said) ∙ sym (one .2 _ (u .said)) in (
+        t .outcome ∙ ap (λ (x : habits.Exit). four (x .number) (x .line) (x .text) (x .count)) e ∙ sym (u .outcome),
+        t .list ∙ ap (λ (x : habits.Exit). numbers (x .number) l (listed 0 x)) e ∙ sym (u .list),
+        ap (λ (x : habits.Exit). x .lent .area) e,
+      )
+
 -- the same of a job over several texts and two lists, whose contract allows exactly one exit
 module _ {Says : List Gate → List Gate → habits.Exit → Type 0} (l k : List ℕ) (one : One (Says (gates l) (gates k))) where
   pub tells-two-one : {o l′ k′ p m n : List ℕ} → TellsTwo Says l k o l′ k′ → TellsTwo Says l k p m n → (o ≡ p) × (l′ ≡ m) × (k′ ≡ n)
+  unfolding listed
   tells-two-one t u =
       let e = one .2 _ (t .said) ∙ sym (one .2 _ (u .said)) in (
         t .outcome ∙ ap (λ (x : habits.Exit). four (x .number) (x .line) (x .text) (x .count)) e ∙ sym (u .outcome),
         t .first ∙ ap (λ (x : habits.Exit). numbers (x .number) l (listed 0 x)) e ∙ sym (u .first),
         t .second ∙ ap (λ (x : habits.Exit). numbers (x .number) k (listed 1 x)) e ∙ sym (u .second),
       )
-    where
-      listed : ℕ → habits.Exit → List Gate
-      listed i x = getD (x .lent .lists) i []
 
--- so does compare's: the outcome and both lists
+-- so does join's: the outcome, the list and the area
+pub join-tells-one : (s l t a : List ℕ) {o l′ a′ p m b : List ℕ} → TellsText (λ l x. Join s l t a x) l o l′ a′ → TellsText (λ l x. Join s l t a x) l p m b → (o ≡ p) × (l′ ≡ m) × (a′ ≡ b)
+join-tells-one s l t a = tells-text-one l (join-one s (gates l) t a)
+
+-- and compare's: the outcome and both lists
 pub compare-tells-one : (s l t k : List ℕ) {o l′ k′ p m n : List ℕ} → TellsTwo (λ l m x. Compare s l t m x) l k o l′ k′ → TellsTwo (λ l m x. Compare s l t m x) l k p m n → (o ≡ p) × (l′ ≡ m) × (k′ ≡ n)
 compare-tells-one s l t k = tells-two-one l k (compare-one s (gates l) t (gates k))

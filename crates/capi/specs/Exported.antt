@@ -15,8 +15,8 @@ use Rattle.records.specs.declared.Outcome.{Outcome}
 use Rattle.records.specs.declared.TextOutcome.{TextOutcome}
 use Rattle.records.specs.declared.Filling.{Filling}
 use Rattle.habits.specs.Habits as habits
-use Rattle.jobs.specs.Jobs.{Job}
-use Rattle.jobs.specs.Handing.{Said, exit-of-two}
+use Rattle.jobs.specs.Jobs.{Job, Exit, Says}
+use Rattle.jobs.specs.Handing.{exit-of, exit-of-text, exit-of-two}
 
 -- ---- the gate list as numbers
 
@@ -40,14 +40,26 @@ three a b c = a ∷ b ∷ c ∷ []
 abbrev pub four : ℕ → ℕ → ℕ → ℕ → List ℕ
 four a b c d = a ∷ b ∷ c ∷ d ∷ []
 
--- ---- the contract of map and reduce
+-- ---- the contract of a job over one text
 
--- what one promises of the text, the list and the area at entry, and of the outcome, the list and the area at exit: what its job says
--- where both lists are read as gates
-pub record Tells (j : Job) (s l a : List ℕ) (o l′ a′ : List ℕ) : Type 0 where
+-- what one promises of the list l at entry, and of the outcome, the list and the area at exit: what its job says (`Says`) where both lists are read
+-- as gates
+pub record TellsOne (Says : List Gate → Exit → Type 0) (l : List ℕ) (o l′ a′ : List ℕ) : Type 0 where
   pub answer : Outcome
   pub outcome : o ≡ four (answer .number) (answer .line) (answer .gates) (answer .bytes)
-  pub said : Said j s (gates l) a answer (gates l′) a′
+  pub said : Says (gates l) (exit-of answer (gates l′) a′)
+  pub list : l′ ≡ numbers (answer .number) l (gates l′)
+
+-- of map and of reduce, with the text s and the area a at entry
+abbrev pub Tells : Job → (s l a : List ℕ) (o l′ a′ : List ℕ) → Type 0
+Tells j s l a o l′ a′ = TellsOne (λ k x. Says j (record { text = s; list = k; area = a }) x) l o l′ a′
+
+-- ---- the contract of a job over several texts and one list
+
+pub record TellsText (Says : List Gate → habits.Exit → Type 0) (l : List ℕ) (o l′ a′ : List ℕ) : Type 0 where
+  pub answer : TextOutcome
+  pub outcome : o ≡ four (answer .number) (answer .line) (answer .text) (answer .count)
+  pub said : Says (gates l) (exit-of-text answer (gates l′) a′)
   pub list : l′ ≡ numbers (answer .number) l (gates l′)
 
 -- ---- the contract of a job over several texts and two lists

@@ -1,8 +1,10 @@
 // The jobs as C functions, and one that reads a gate record: gates are numbers, and so are the parts of the outcome.
 use gates::Gate;
 use records::Done;
+use records::DoneText;
 use records::DoneTwo;
 use records::Filling;
+use records::TextOutcome;
 use text::Kind;
 ghost use mathlib.Core.Path.{_≡_};
 ghost use Prim.Native.Nat.{_≤_};
@@ -10,8 +12,10 @@ ghost use lib.ListN.{length};
 ghost use Rattle.gates.specs.Code.{Code};
 ghost use Rattle.records.specs.Records.{Fits};
 ghost use Rattle.jobs.specs.Jobs.{mapping, reducing, writes};
+ghost use Rattle.inversion.specs.Invert.{Invert};
+ghost use Rattle.joins.specs.Join.{Join};
 ghost use Rattle.comparison.specs.Compare.{Compare};
-ghost use Rattle.capi.specs.Exported.{four, record-at, written, stored, Storable, Tells, TellsTwo, Whether, gate-parts, RecordParts};
+ghost use Rattle.capi.specs.Exported.{four, record-at, written, stored, Storable, TellsOne, Tells, TellsText, TellsTwo, Whether, gate-parts, RecordParts};
 
 // The record of the gate `not 0`.
 const NOT_0: u16 = 2;
@@ -63,20 +67,35 @@ fn hand_over(d: Done, list: &mut [u16], outcome: &mut [u64; 4])
     ];
 }
 
-// The same of a job over several texts and two lists.
-fn hand_over_two(d: DoneTwo, list: &mut [u16], list2: &mut [u16], outcome: &mut [u64; 4])
-    requires { ⌜ Fits (d .first) (length (now list)) × Fits (d .second) (length (now list2)) ⌝ }
-    ensures { λ _. ⌜ (now (list .exit) ≡ stored (d .first) (now (list .entry))) × (now (list2 .exit) ≡ stored (d .second) (now (list2 .entry))) × (now (outcome .exit) ≡ four (d .outcome .number) (d .outcome .line) (d .outcome .text) (d .outcome .count)) ⌝ }
+// Writes the outcome of a job over several texts.
+fn tell_outcome(said: TextOutcome, outcome: &mut [u64; 4])
+    ensures { λ _. ⌜ now (outcome .exit) ≡ four (said .number) (said .line) (said .text) (said .count) ⌝ }
 {
-    store_filling(d.first, list);
-    store_filling(d.second, list2);
-    let said = d.outcome;
     *outcome = [
         said.number as u64,
         said.line as u64,
         said.text as u64,
         said.count as u64,
     ];
+}
+
+// The same as `hand_over` of a job over several texts and one list.
+fn hand_over_text(d: DoneText, list: &mut [u16], outcome: &mut [u64; 4])
+    requires { ⌜ Fits (d .filling) (length (now list)) ⌝ }
+    ensures { λ _. ⌜ (now (list .exit) ≡ stored (d .filling) (now (list .entry))) × (now (outcome .exit) ≡ four (d .outcome .number) (d .outcome .line) (d .outcome .text) (d .outcome .count)) ⌝ }
+{
+    store_filling(d.filling, list);
+    tell_outcome(d.outcome, outcome);
+}
+
+// And over two lists.
+fn hand_over_two(d: DoneTwo, list: &mut [u16], list2: &mut [u16], outcome: &mut [u64; 4])
+    requires { ⌜ Fits (d .first) (length (now list)) × Fits (d .second) (length (now list2)) ⌝ }
+    ensures { λ _. ⌜ (now (list .exit) ≡ stored (d .first) (now (list .entry))) × (now (list2 .exit) ≡ stored (d .second) (now (list2 .entry))) × (now (outcome .exit) ≡ four (d .outcome .number) (d .outcome .line) (d .outcome .text) (d .outcome .count)) ⌝ }
+{
+    store_filling(d.first, list);
+    store_filling(d.second, list2);
+    tell_outcome(d.outcome, outcome);
 }
 
 // Does the job over a text of this kind.
@@ -111,6 +130,35 @@ pub extern "C" fn yilgorza_reduce(
     ensures { λ _. ⌜ Tells reducing (now (text .entry)) (now (list .entry)) (now (answer .entry)) (now (outcome .exit)) (now (list .exit)) (now (answer .exit)) ⌝ }
 {
     answer_text(Kind::Circuit, text, list, answer, outcome);
+}
+
+// Inverts a circuit text.
+#[no_mangle]
+pub extern "C" fn yilgorza_invert(
+    text: &[u8],
+    list: &mut [u16],
+    answer: &mut [u8],
+    outcome: &mut [u64; 4],
+)
+    ensures { λ _. ⌜ TellsOne (λ k x. Invert (record { text = now (text .entry); list = k; area = now (answer .entry) }) x) (now (list .entry)) (now (outcome .exit)) (now (list .exit)) (now (answer .exit)) ⌝ }
+{
+    let d = inversion::invert_codes(text, list.len(), answer);
+    hand_over(d, list, outcome);
+}
+
+// Joins two circuit texts.
+#[no_mangle]
+pub extern "C" fn yilgorza_join(
+    first: &[u8],
+    list: &mut [u16],
+    second: &[u8],
+    answer: &mut [u8],
+    outcome: &mut [u64; 4],
+)
+    ensures { λ _. ⌜ TellsText (λ l x. Join (now (first .entry)) l (now (second .entry)) (now (answer .entry)) x) (now (list .entry)) (now (outcome .exit)) (now (list .exit)) (now (answer .exit)) ⌝ }
+{
+    let d = joins::join_codes(first, list.len(), second, answer);
+    hand_over_text(d, list, outcome);
 }
 
 // Compares two circuit texts.

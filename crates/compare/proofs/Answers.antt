@@ -23,8 +23,8 @@ use Rattle.records.specs.Records.{filled-by}
 use Rattle.jobs.specs.Handing.{exit-of-two}
 use Rattle.jobs.proofs.Numbers.{from-1}
 use Rattle.comparison.specs.Compare.{judged, Compared, Compare, Hands}
-use Rattle.console.specs.Output.{Fronts}
-use Rattle.compare.specs.Output.{shown, PrintsBy, Prints, Answers}
+use Rattle.console.specs.Output.{Fronts, Answers}
+use Rattle.compare.specs.Output.{shown, PrintsBy, Prints}
 
 -- ---- what the job tells of the texts s and t, with lists of 4,096 records
 
@@ -81,17 +81,17 @@ words Greater e = (λ z. absurd (omega (arith, e, z)), λ z. absurd (omega (arit
 -- the contract of `answer`, by what was handed over and what was then written at the front of the area
 module _ (s t : List ℕ) (h : DoneTwo) (hands : Hands s 4096 t 4096 h) {a : List ℕ} {n : ℕ} {b : List ℕ} where
   -- the refusal
-  pub refusal-answers : h .outcome .number ≢ 0 → Fronts a n b (text-turned-away (h .outcome .number) (h .outcome .line) (h .outcome .text)) → Answers s t a n b
+  pub refusal-answers : h .outcome .number ≢ 0 → Fronts a n b (text-turned-away (h .outcome .number) (h .outcome .line) (h .outcome .text)) → Answers (Prints s t) a n b
   refusal-answers z f = go (told s t h hands)
     where
-      go : Told s t (h .outcome) → Answers s t a n b
+      go : Told s t (h .outcome) → Answers (Prints s t) a n b
       go (refused q i j k) = record { written = _; prints = prints-refusal s t q; fronts = rw (i, j, k) at f }
       go (compared q w i j) = absurd (z i)
 
   -- the success
-  pub success-answers : h .outcome .number ≡ 0 → ((k : Comparison) → h .outcome .count ≡ count-of k → Fronts a n b (shown k)) → Answers s t a n b
+  pub success-answers : h .outcome .number ≡ 0 → ((k : Comparison) → h .outcome .count ≡ count-of k → Fronts a n b (shown k)) → Answers (Prints s t) a n b
   success-answers z f = go (told s t h hands)
     where
-      go : Told s t (h .outcome) → Answers s t a n b
+      go : Told s t (h .outcome) → Answers (Prints s t) a n b
       go (refused {r} q i j k) = absurd (omega (arith, from-1 r, i, z))
       go (compared {k = k} q w i j) = record { written = shown k; prints = prints-success s t q w; fronts = f k j }

@@ -1,8 +1,9 @@
 -- The refusal that the program writes is neither 2 nor 10: it has room for 4,096 gates of each text, and lends no area to the job. Assumes nothing.
 use mathlib.Core.Path.{_≡_}
 use mathlib.Core.Logic.{_≢_}
-use mathlib.Core.List.{List}
+use mathlib.Core.List.{List, [], _∷_}
 use Prim.Native.Nat.{ℕ}
+use native.Mathlib.Omega.{arith}
 use Rattle.text.specs.declared.Refusal.{Refusal}
 use Rattle.text.specs.declared.Kind.the-variants.{Circuit}
 use Rattle.text.specs.Refusals.{number-of}
@@ -14,7 +15,9 @@ use Rattle.console.proofs.Numbers.{Writable, yields-writable}
 -- what is judged of the texts s and t: each refusal is one that programs may write
 judged-writable : (s t : List ℕ) → Yields Writable (λ _. Unit {0}) (judged s 4096 t 4096)
 unfolding judged
-judged-writable s t = yields-then (yields-writable 1 Circuit s) (λ c _. yields-then (yields-writable 2 Circuit t) (λ d _. ends tt))
+judged-writable s t =
+    yields-then (yields-writable 1 Circuit s (4096 ∷ []) (omega arith, tt)) (λ c _.
+    yields-then (yields-writable 2 Circuit t (4096 ∷ []) (omega arith, tt)) (λ d _. ends tt))
 
 -- so no refusal of the program is 2 or 10
 pub never-2-or-10 : (s t : List ℕ) {r : Refusal} {u l : ℕ} → judged s 4096 t 4096 ≡ away r u l → (number-of r ≢ 2) × (number-of r ≢ 10)

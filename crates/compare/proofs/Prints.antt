@@ -1,6 +1,6 @@
 -- What the program writes: for every two texts exactly one thing, and its last byte is 10. Assumes nothing.
 use mathlib.Core.Path.{_≡_, refl, sym, ap, _∙_}
-use mathlib.Core.List.{List, [], _++_}
+use mathlib.Core.List.{List}
 use Prim.Native.Nat.{ℕ}
 use Rattle.text.specs.Refusals.{number-of}
 use Rattle.text.specs.Text.{bytes}
@@ -9,16 +9,15 @@ use Rattle.ordering.specs.declared.Comparison.{Comparison}
 use Rattle.ordering.specs.declared.Comparison.the-variants.{Less, Equal, Greater}
 use Rattle.ordering.specs.Comparing.{compare-lists}
 use Rattle.ordering.proofs.Linked.{reduced-compares, compares-one}
-use Rattle.writing.specs.Decimal.{decimal, two-numbers}
-use Rattle.forms.specs.Forms.{three-numbers, text-turned-away}
+use Rattle.forms.specs.Forms.{text-turned-away}
 use Rattle.habits.specs.Habits.{Judgement, fine, away, Circuit}
 use Rattle.habits.specs.Demands.{One}
 use Rattle.habits.proofs.Yields.{yields-fine}
 use Rattle.comparison.specs.Compare.{judged}
 use Rattle.comparison.proofs.One.{yields-judged}
-use Rattle.console.proofs.Front.{fronts-one}
-use Rattle.console.proofs.Ended.{Ended, behind, two-numbers-ended}
-use Rattle.compare.specs.Output.{shown, PrintsBy, Prints, Answers}
+use Rattle.writing.proofs.Ended.{Ended}
+use Rattle.forms.proofs.Ended.{three-numbers-ended}
+use Rattle.compare.specs.Output.{shown, PrintsBy, Prints}
 
 -- ---- exactly one
 
@@ -47,12 +46,6 @@ pub prints-one : (s t : List ℕ) → One (Prints s t)
 unfolding Prints
 prints-one s t = let y = only s t (judged s 4096 t 4096) refl in (printed-by (judged s 4096 t 4096), y .0, y .1)
 
--- so the contract of `answer` leaves nothing free
-pub answers-one : (s t a : List ℕ) (n m : ℕ) (b d : List ℕ) → Answers s t a n b → Answers s t a m d → (n ≡ m) × (b ≡ d)
-answers-one s t a n m b d x y =
-    let p = prints-one s t in
-    fronts-one (p .2 (x .written) (x .prints) ∙ sym (p .2 (y .written) (y .prints))) (x .fronts) (y .fronts)
-
 -- ---- ended by byte 10
 
 -- each word
@@ -60,11 +53,6 @@ shown-ended : (k : Comparison) → Ended (shown k)
 shown-ended Less = (bytes "(less)", refl)
 shown-ended Equal = (bytes "(equal)", refl)
 shown-ended Greater = (bytes "(greater)", refl)
-
--- a form of three numbers, which ends as one of two
-three-numbers-ended : (w : List ℕ) (k m n : ℕ) → Ended (three-numbers w k m n)
-unfolding three-numbers two-numbers
-three-numbers-ended w k m n = behind w (behind (decimal k ++ bytes " ") (two-numbers-ended [] m n))
 
 -- a refusal too
 shows-ended : (v : Judgement (Circuit × Circuit)) (w : List ℕ) → PrintsBy v w → Ended w

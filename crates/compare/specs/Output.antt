@@ -10,7 +10,6 @@ use Rattle.ordering.specs.Comparing.{Compares}
 use Rattle.forms.specs.Forms.{text-turned-away}
 use Rattle.habits.specs.Habits.{Judgement, fine, away, Circuit}
 use Rattle.comparison.specs.Compare.{judged}
-use Rattle.console.specs.Output.{Fronts}
 
 -- on success: "less, equal or greater"
 abbrev pub shown : Comparison → List ℕ
@@ -26,10 +25,3 @@ PrintsBy (fine (c, d)) w = (k : Comparison) × Compares (c .lines) (c .gates) (d
 -- w is what the program writes for the first text s and the second text t: it has room for 4,096 gates of each
 unfoldable pub Prints : List ℕ → List ℕ → List ℕ → Type 0
 Prints s t w = PrintsBy (judged s 4096 t 4096) w
-
--- the contract of the function that leaves these bytes in an area: b is the area a with n bytes at its front, which are what the program writes
--- for the texts s and t
-pub record Answers (s t a : List ℕ) (n : ℕ) (b : List ℕ) : Type 0 where
-  pub written : List ℕ
-  pub prints : Prints s t written
-  pub fronts : Fronts a n b written

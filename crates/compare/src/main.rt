@@ -1,12 +1,10 @@
 // Compares the circuit texts of two files: are they one circuit, and which comes first if not.
 ghost use mathlib.Core.Path.{_≡_};
-ghost use lib.ListN.{length};
 ghost use Rattle.ordering.specs.declared.Comparison.{Comparison};
 ghost use Rattle.ordering.specs.Comparing.{count-of};
-ghost use Rattle.console.specs.Input.{Within};
-ghost use Rattle.console.specs.Output.{Fronts};
-ghost use Rattle.compare.specs.Output.{shown, Prints, Answers};
-use console::Input;
+ghost use Rattle.console.specs.Output.{Fronts, Answers};
+ghost use Rattle.compare.specs.Output.{shown, Prints};
+use console::TwoInputs;
 
 // How many records each gate list has for the job: as many as a text may have gates. The program itself needs no list.
 const RECORDS: usize = 4096;
@@ -31,7 +29,7 @@ fn write_comparison(count: usize, out: &mut [u8; ANSWER_BYTES]) -> usize
 
 // Leaves at the front of the area the bytes that the program writes for two texts, and gives their number.
 fn answer(first: &[u8], second: &[u8], out: &mut [u8; ANSWER_BYTES]) -> usize
-    ensures { λ r. ⌜ Answers (now (first .entry)) (now (second .entry)) (now (out .entry)) r (now (out .exit)) ⌝ }
+    ensures { λ r. ⌜ Answers (Prints (now (first .entry)) (now (second .entry))) (now (out .entry)) r (now (out .exit)) ⌝ }
 {
     let d = comparison::compare_codes(first, RECORDS, second, RECORDS);
     let outcome = d.outcome;
@@ -55,38 +53,13 @@ fn run_on(first: &[u8], second: &[u8]) {
     print(first, second, &out[..n]);
 }
 
-// ---- what it reads
-
-// Says how the program is called.
-fn tell_usage() {
-    console::tell(b"usage: compare FIRST SECOND\n");
-}
-
-// Reads the file that argument i names. Where the argument names none, says how the program is called.
-fn read_text(i: usize, buffer: &mut [u8]) -> Input
-    ensures { λ r. ⌜ Within 0 (length (now (buffer .exit))) r ⌝ }
-{
-    let input = console::read_argument(i, buffer);
-    if let Input::Misused = input {
-        tell_usage();
-    }
-    input
-}
-
-// Each buffer takes one byte more than a text may have, so a longer one is seen to be too long. Nothing is read of the second text where the first
-// cannot be read.
+// Each buffer takes one byte more than a text may have, so a longer one is seen to be too long.
 fn main() {
-    if os::arg_count() != 3 {
-        tell_usage();
-        return;
-    }
     let mut first = [0u8; console::TEXT_BYTES + 1];
-    let Input::Bytes(m) = read_text(1, &mut first) else {
-        return;
-    };
     let mut second = [0u8; console::TEXT_BYTES + 1];
-    let Input::Bytes(n) = read_text(2, &mut second) else {
-        return;
-    };
-    run_on(&first[..m], &second[..n]);
+    match console::read_two(&mut first, &mut second) {
+        TwoInputs::Bytes(m, n) => run_on(&first[..m], &second[..n]),
+        TwoInputs::Unreadable => {}
+        TwoInputs::Misused => console::tell(b"usage: compare FIRST SECOND\n"),
+    }
 }

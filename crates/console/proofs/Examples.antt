@@ -11,10 +11,10 @@ use Rattle.records.specs.declared.Outcome.{Outcome}
 use Rattle.text.specs.Refusals.{number-of}
 use Rattle.text.specs.Text.{circuit-text}
 use Rattle.writing.specs.Decimal as form
-use Rattle.jobs.specs.Jobs.{Job, mapping, reducing, takes, Output, as-text, as-count, Entry, Exit, Says}
+use Rattle.jobs.specs.Jobs.{Job, mapping, reducing, takes, Output, as-text, as-count, judged-text, Entry, Exit, Says}
 use Rattle.jobs.specs.Examples.{typed, Answer, text, quote, away, Row, gives, expands, Shows, Gets, Correct, table}
 use Rattle.jobs.proofs.One.{says-one}
-use Rattle.jobs.proofs.Numbers.{text-count}
+use Rattle.jobs.proofs.Numbers.{from-1, text-count}
 use Rattle.jobs.proofs.Table.{examples}
 use Rattle.console.specs.declared.Program.{Program}
 use Rattle.console.specs.declared.Program.the-variants.{Map, Reduce, Quote}
@@ -74,7 +74,7 @@ lends-nothing Quote i = refl
 abbrev outcome : Exit → Outcome
 outcome x = record { number = x .number; line = x .line; gates = x .gates; bytes = x .bytes }
 
-left : (p : Program) (s : List ℕ) (x : Exit) → Says (job-of p) (entry p s) x → Left (takes (job-of p)) (output-of p) s (lent-area p) (outcome x) (x .area)
+left : (p : Program) (s : List ℕ) (x : Exit) → Says (job-of p) (entry p s) x → Left (judged-text (takes (job-of p)) s 4096) (output-of p) (lent-area p) (outcome x) (x .area)
 left Map s x y = area-left mapping s (lent-area Map) (outcome x) (x .area) (omega (arith, area-length)) (x .list, y)
 left Reduce s x y = area-left reducing s (lent-area Reduce) (outcome x) (x .area) (omega (arith, area-length)) (x .list, y)
 left Quote s x y = own-left mapping s [] (outcome x) (x .area) (λ w. absurd (text-count (sym w))) (x .list, y)
@@ -83,35 +83,38 @@ left Quote s x y = own-left mapping s [] (outcome x) (x .area) (λ w. absurd (te
 
 module _ (p : Program) (s : List ℕ) (x : Exit) (says : Says (job-of p) (entry p s) x) where
   abbrev Leaves : Type 0
-  Leaves = Left (takes (job-of p)) (output-of p) s (lent-area p) (outcome x) (x .area)
+  Leaves = Left (judged-text (takes (job-of p)) s 4096) (output-of p) (lent-area p) (outcome x) (x .area)
 
   prints-text : (t : List ℕ) → output-of p ≡ as-text → x .number ≡ 0 → take (x .bytes) (x .area) ≡ t → Prints p s t
+  unfolding Prints
   prints-text t i z e = go (left p s x says)
     where
       go : Leaves → Prints p s t
-      go (refused q n k l b) = absurd (n z)
+      go (refused {r} q k l b) = absurd (omega (arith, from-1 r, k, z))
       go (succeeded {h} {c} {r} q w k f) =
           let u : t ≡ circuit-text (h .lines) r = sym e ∙ fronts-are (rw i at f) in
-          rw u (rw i at (prints-success p s q w))
+          rw (u, i) (rw i at (prints-success (output-of p) q w))
 
   prints-gates : (m : ℕ) → output-of p ≡ as-count → x .number ≡ 0 → x .gates ≡ m → Prints p s (form.quote m)
+  unfolding Prints
   prints-gates m i z e = go (left p s x says)
     where
       go : Leaves → Prints p s (form.quote m)
-      go (refused q n k l b) = absurd (n z)
+      go (refused {r} q k l b) = absurd (omega (arith, from-1 r, k, z))
       go (succeeded {h} {c} {r} q w k f) =
           let g = rw i at f in
           let u : m ≡ length r = sym e ∙ g .0 in
-          rw u (rw i at (prints-success p s q w))
+          rw (u, i) (rw i at (prints-success (output-of p) q w))
 
   prints-away : (n l : ℕ) → (n ≡ 0 → ⊥) → x .number ≡ n → x .line ≡ l → Prints p s (form.turned-away n l)
+  unfolding Prints
   prints-away n l z e f = go (left p s x says)
     where
       go : Leaves → Prints p s (form.turned-away n l)
-      go (refused {r} {l = i} q k a b c) =
+      go (refused {r} {l = i} q a b c) =
           let u : n ≡ number-of r = sym e ∙ a in
           let v : l ≡ i = sym f ∙ b in
-          rw (u, v) (prints-refusal p s q)
+          rw (u, v) (prints-refusal (output-of p) q)
       go (succeeded q w k a) = absurd (z (sym e ∙ k))
 
 -- the job's answer, of a row that is correct

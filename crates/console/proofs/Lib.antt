@@ -1,9 +1,7 @@
 -- The laws and theorems of this crate, in reading order.
 pub mod Counted
 pub mod Front
-pub mod Longest
 pub mod Answers
-pub mod Ended
 pub mod Prints
 pub mod Before
 pub mod JudgedBy

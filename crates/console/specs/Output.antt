@@ -57,10 +57,10 @@ pub record Fronts (a : List ℕ) (n : ℕ) (b w : List ℕ) : Type 0 where
   pub number : n ≡ length w
   pub bytes : b ≡ w ++ drop n a
 
--- its contract: b is the area a with n bytes at its front, which are what the program writes for the text s
-pub record Answers (p : Program) (s a : List ℕ) (n : ℕ) (b : List ℕ) : Type 0 where
+-- its contract, where the program may write what `Writes` says: b is the area a with n bytes at its front, which are such
+pub record Answers (Writes : List ℕ → Type 0) (a : List ℕ) (n : ℕ) (b : List ℕ) : Type 0 where
   pub written : List ℕ
-  pub prints : Prints p s written
+  pub prints : Writes written
   pub fronts : Fronts a n b written
 
 -- ---- its two steps

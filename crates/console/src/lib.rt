@@ -5,7 +5,7 @@ ghost use Prim.Native.Nat.{_≤_};
 ghost use lib.ListN.{length};
 ghost use Rattle.jobs.specs.Jobs.{mapping};
 ghost use Rattle.jobs.specs.Handing.{Own};
-ghost use Rattle.console.specs.Input.{Within};
+ghost use Rattle.console.specs.Input.{Within, WithinTwo};
 ghost use Rattle.console.specs.Output.{output-of, Prints, Answers, Does, Succeeds};
 use records::Outcome;
 
@@ -60,7 +60,7 @@ fn write_success(program: Program, gates: usize, bytes: usize, out: &mut [u8]) -
 
 // Leaves at the front of the area the bytes that a program writes for a text, and gives their number.
 pub fn answer(program: Program, text: &[u8], out: &mut [u8; ANSWER_BYTES]) -> usize
-    ensures { λ r. ⌜ Answers program (now (text .entry)) (now (out .entry)) r (now (out .exit)) ⌝ }
+    ensures { λ r. ⌜ Answers (Prints program (now (text .entry))) (now (out .entry)) r (now (out .exit)) ⌝ }
 {
     let outcome = outcome_of(program, text, out);
     if outcome.number != 0 {
@@ -157,7 +157,7 @@ pub fn read_argument(i: usize, buffer: &mut [u8]) -> Input
 }
 
 // Reads the text of a program over one text: the file that its argument names, or standard input where it has none.
-fn read_text(buffer: &mut [u8]) -> Input
+pub fn read_text(buffer: &mut [u8]) -> Input
     ensures { λ r. ⌜ Within 0 (length (now (buffer .exit))) r ⌝ }
 {
     let words = os::arg_count();
@@ -168,6 +168,38 @@ fn read_text(buffer: &mut [u8]) -> Input
         return read_argument(1, buffer);
     }
     read_standard(buffer)
+}
+
+// The same of the two texts of a program over two files.
+pub enum TwoInputs {
+    Bytes(usize, usize),
+    Unreadable,
+    Misused,
+}
+
+// Reads the second file, behind a first text of m bytes.
+fn read_second(m: usize, second: &mut [u8]) -> TwoInputs
+    ensures { λ r. ⌜ WithinTwo m (length (now (second .exit))) r ⌝ }
+{
+    match read_argument(2, second) {
+        Input::Bytes(n) => TwoInputs::Bytes(m, n),
+        Input::Unreadable => TwoInputs::Unreadable,
+        Input::Misused => TwoInputs::Misused,
+    }
+}
+
+// Reads the files that the two arguments name. Nothing is read of the second text where the first cannot be read.
+pub fn read_two(first: &mut [u8], second: &mut [u8]) -> TwoInputs
+    ensures { λ r. ⌜ WithinTwo (length (now (first .exit))) (length (now (second .exit))) r ⌝ }
+{
+    if os::arg_count() != 3 {
+        return TwoInputs::Misused;
+    }
+    match read_argument(1, first) {
+        Input::Bytes(m) => read_second(m, second),
+        Input::Unreadable => TwoInputs::Unreadable,
+        Input::Misused => TwoInputs::Misused,
+    }
 }
 
 // Says how a program over one text is called.

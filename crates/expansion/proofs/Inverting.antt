@@ -1,45 +1,20 @@
 -- The inverse of a circuit, on the numbers of its gates. Assumes nothing.
-use mathlib.Core.Path.{_≡_, refl, sym, ap, _∙_}
-use mathlib.Core.Logic.{_≢_}
+use mathlib.Core.Path.{_≡_, ap, _∙_}
 use mathlib.Core.List.{List, map}
-use Prim.Native.Nat.{ℕ, zero, suc, _+_, _*_, _-_, _/_, _%_, _≤_, _<_}
+use Prim.Native.Nat.{ℕ, suc, _+_, _-_, _≤_, _<_}
 use native.Mathlib.Omega.{arith}
 use lib.ListN.{length, getD, take, set}
 use lib.Seq.{slice, slice-cons, slice-empty, length-slice, getD-take, getD-drop}
 use Rattle.gates.specs.declared.Gate.{Gate}
-use Rattle.gates.specs.declared.Gate.the-variants.{Powered}
 use Rattle.gates.specs.Circuit.{AllValid}
 use Rattle.gates.specs.Inverse.{inverse, inverted}
 use Rattle.gates.specs.Code.{code, gate, gates, Code, AllCodes}
-use Rattle.gates.proofs.Codes.{power-gate, gate-not, gate-powered, code-powered, some-power}
 use Rattle.gates.proofs.CodeLists.{code-at, gates-code}
 use Rattle.cascades.specs.Expansion.{_⨾_}
 use Rattle.expansion.specs.Written.{Written}
 use Rattle.expansion.proofs.Writing.{none, one, both}
 
--- ---- one gate
-
-pub inverted-not : (k : ℕ) → Code 32 k → k / 4 % 33 ≡ 0 → k ≡ code (inverted (gate k))
-unfolding inverted
-inverted-not k w e = sym (w .exact) ∙ ap code (rw (← gate-not k e))
-
-powered-code : (p c t : ℕ) → 1 ≤ p → p ≤ 3 → code (inverted (Powered p c t)) ≡ (t * 33 + c + 1) * 4 + (4 - p)
-unfolding inverted
-powered-code p c t a b = let e : (4 - p) % 4 ≡ 4 - p = omega arith in rw e (sym (code-powered (4 - p) c t))
-
-pub inverted-powered : (k : ℕ) → Code 32 k → k / 4 % 33 ≢ 0 → k / 4 * 4 + (4 - k % 4) ≡ code (inverted (gate k))
-inverted-powered k w h = go (k / 4 % 33) refl
-  where
-    go : (s : ℕ) → k / 4 % 33 ≡ s → k / 4 * 4 + (4 - k % 4) ≡ code (inverted (gate k))
-    go zero e = absurd (h e)
-    go (suc c) e =
-        let g = gate-powered k c e in
-        let p : 1 ≤ k % 4 = omega (arith, some-power (w .valid), power-gate k h) in
-        let q : (k / 132 * 33 + c + 1) * 4 + (4 - k % 4) ≡ k / 4 * 4 + (4 - k % 4) = omega arith in
-        sym (rw (← g) (powered-code (k % 4) c (k / 132) p (omega arith) ∙ q))
-
--- ---- a circuit
-
+-- each number from `from` up to `to` is that of a gate
 pub code-in : (n : ℕ) (from to : ℕ) (l : List ℕ) (i : ℕ) → from ≤ i → i < to → to ≤ length l → AllCodes n (slice from to l) → Code n (getD l i 0)
 code-in n from to l i a b h w =
     let e : from + (i - from) ≡ i = omega arith in

@@ -6,8 +6,8 @@ ghost use mathlib.Core.List.{_∷_, [], _++_};
 ghost use Prim.Native.Nat.{_+_, _-_, _/_, _≤_, _<_};
 ghost use lib.ListN.{length, getD, drop};
 ghost use lib.Seq.{slice};
-ghost use Rattle.gates.specs.Code.{Code, AllCodes, code, gate, gates as gates-of};
-ghost use Rattle.gates.specs.Inverse.{inverted as inverted-gate, inverse};
+ghost use Rattle.gates.specs.Code.{AllCodes, gates as gates-of};
+ghost use Rattle.gates.specs.Inverse.{inverse};
 ghost use Rattle.cascades.specs.Expansion.{v, v⁺, cn, _⨾_, mct-spares, first-spare as first-of, expand-with, expansion, Expandable, counts};
 ghost use Rattle.cascades.specs.Signs.{nots as nots-on, between-nots};
 ghost use Rattle.cascades.specs.Cascade.{Below};
@@ -177,17 +177,6 @@ fn put(list: &mut [u16], at: usize, g: Gate) -> usize
     at + 1
 }
 
-// The number of a gate with v and vp exchanged.
-fn inverted(k: u16) -> u16
-    requires { ⌜ Code 32 k ⌝ }
-    ensures { λ r. ⌜ r ≡ code (inverted-gate (gate k)) ⌝ }
-{
-    if k / 4 % 33 == 0 {
-        return k;
-    }
-    k / 4 * 4 + (4 - k % 4)
-}
-
 // Writes the inverse of the gates that stand from `from` up to `to`: reversed, with v and vp exchanged.
 fn invert(list: &mut [u16], from: usize, to: usize, at: usize) -> usize
     requires { ⌜ (from ≤ to) × (to ≤ at) × (at + (to - from) ≤ length (now list)) ⌝ }
@@ -198,7 +187,7 @@ fn invert(list: &mut [u16], from: usize, to: usize, at: usize) -> usize
     let mut next = at;
     while from < i {
         i -= 1;
-        list[next] = inverted(list[i]);
+        list[next] = gates::inverted(list[i]);
         next += 1;
     }
     next

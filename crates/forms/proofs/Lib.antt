@@ -1,2 +1,3 @@
 -- The laws and theorems of this crate, in reading order.
 pub mod Lines
+pub mod Ended

@@ -148,7 +148,6 @@ module _ (n : ℕ) where
       let b = reduced-fewest n x there in
       omega (arith, length-inverse r, length-inverse s)
 
-  -- the inverse of the inverse has the circuit's reduced list
   -- a circuit joined with its inverse, either way round, reduces to no gates
   pub nf-undone : (c : List Gate) → AllValid n c → nf (c ++ inverse c) ≡ []
   nf-undone c f = linked-nf n (linked-undone c f) ∙ nf-nil

@@ -15,4 +15,5 @@ pub mod Joins
 pub mod Inverses
 pub mod Examples
 pub mod Codes
+pub mod InvertedCodes
 pub mod CodeLists

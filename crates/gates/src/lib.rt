@@ -1,7 +1,8 @@
 // A gate by value, and a gate as a number.
 ghost use mathlib.Core.Path.{_≡_};
 ghost use Prim.Native.Nat.{_<_};
-ghost use Rattle.gates.specs.Code.{code, gate};
+ghost use Rattle.gates.specs.Code.{Code, code, gate};
+ghost use Rattle.gates.specs.Inverse.{inverted as inverted-gate};
 
 // A NOT on a target; or a power, a control and a target.
 pub enum Gate {
@@ -36,4 +37,15 @@ pub fn decode(k: u16) -> Gate
         return Gate::Not(target);
     }
     Gate::Powered((k % 4) as u8, slot - 1, target)
+}
+
+// The number of a gate with v and vp exchanged.
+pub fn inverted(k: u16) -> u16
+    requires { ⌜ Code 32 k ⌝ }
+    ensures { λ r. ⌜ r ≡ code (inverted-gate (gate k)) ⌝ }
+{
+    if k / 4 % 33 == 0 {
+        return k;
+    }
+    k / 4 * 4 + (4 - k % 4)
 }

@@ -1,14 +1,14 @@
 -- What judging can yield: which refusals, and what holds where nothing is refused. One law for each way of judging. Assumes nothing.
 use Prim.Native.Nat.{ℕ, _≤_}
 use mathlib.Core.Path.{_≡_, refl, sym, subst}
-use mathlib.Core.Bool.{true, false}
+use mathlib.Core.Bool.{Bool, true, false}
 use mathlib.Core.List.{List}
 use native.Mathlib.Omega.{arith}
 use Rattle.meaning.specs.Pattern.{has}
 use Rattle.text.specs.declared.Refusal.{Refusal}
 use Rattle.text.specs.Refusals.{number-of}
 use Rattle.text.specs.Judging.{Found}
-use Rattle.habits.specs.Habits.{Judgement, fine, away, _then_, passes, taken}
+use Rattle.habits.specs.Habits.{Judgement, fine, away, _then_, passes, require, taken}
 use Rattle.habits.specs.Demands.{Sized, numbers, textless}
 use Rattle.habits.proofs.Rules.{Sizes, too-long, too-few, passing, sizes}
 
@@ -49,6 +49,12 @@ yields-fine {Q = Q} (ends h) e = subst Q (fine-is e) h
 pub yields-away : {A : Type 0} {P : Refusal → ℕ → ℕ → Type 0} {Q : A → Type 0} {v : Judgement A} {r : Refusal} {t l : ℕ} → Yields P Q v → v ≡ away r t l → P r t l
 yields-away (refuses p) e = let d = away-is e in rw (← d .0, ← d .1, ← d .2) p
 yields-away (ends h) e = absurd (away-fine (sym e))
+
+-- a rule of the job's own: its refusal, or that it holds
+pub yields-require : {P : Refusal → ℕ → ℕ → Type 0} (b : Bool) (r : Refusal) (t l : ℕ) → P r t l → Yields P (λ _. b ≡ true) (require b r t l)
+unfolding require
+yields-require true r t l p = ends refl
+yields-require false r t l p = refuses p
 
 -- ---- the refusals of a job over so many texts, with these numbers of its own
 

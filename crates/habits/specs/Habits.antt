@@ -2,7 +2,7 @@
 -- and gate lists: judging in order, what a refusal leaves, what success leaves. Assumes nothing.
 use Prim.Native.Nat.{ℕ, _-_}
 use mathlib.Core.Path.{_≡_}
-use mathlib.Core.Bool.{cond}
+use mathlib.Core.Bool.{Bool, cond}
 use mathlib.Core.List.{List, [], _∷_, _++_, map}
 use lib.ListN.{length, drop, replicate}
 use lib.Dec.{leb, ltb}
@@ -31,6 +31,10 @@ away r t l then f = away r t l
 unfoldable pub passes : Found → (text line : ℕ) → Judgement (Unit {0})
 passes sound t l = fine tt
 passes (breaks r) t l = away r t l
+
+-- a rule of the job's own: where it is broken, the refusal is of this text number and line
+unfoldable pub require : Bool → Refusal → (text line : ℕ) → Judgement (Unit {0})
+require b r t l = cond b (fine tt) (away r t l)
 
 -- rule 1 for a text of this size, then rule 2 for each gate list that is judged with it, of so many records: "A sole gate list is judged with the
 -- first text, each of several with its own text"

@@ -171,7 +171,7 @@ shown-cascade {n} {s} {c} {r} t w =
       realised = reduced-realises n (k .mcts) (k .ready) (subst (λ (d : List Gate). Reduced n d r) (k .expanded) w);
     }
 
-shown-circuit : {n : ℕ} {s : List ℕ} {c : List Gate} → Text Circuit n s c → ShownCircuit n s c
+pub shown-circuit : {n : ℕ} {s : List ℕ} {c : List Gate} → Text Circuit n s c → ShownCircuit n s c
 shown-circuit {n} {s} {c} t =
     let b = t .largest in
     record { shown = circuit-of t; only = λ m d p e. circuit-text-is n m c d (omega arith, gates-proper n c b (text-valid t)) p (sym (circuit-of t) ∙ e) }

@@ -43,15 +43,15 @@ is-nf {n} {c} {r} v w = sym (reduced-is-nf n c r v .0 w)
 
 -- ---- the one exit
 
--- by what its text was judged to be
-only : (j : Job) (e : Entry) (d : Judged) → judged (takes j) e ≡ d → One (Settled j e d)
+-- by what its text was judged to be, with a circuit on the lines of the head
+pub settled-one : (j : Job) (e : Entry) (d : Judged) → ((h : Head) (c : List Gate) → d ≡ accepted h c → AllValid (h .lines) c) → One (Settled j e d)
 unfolding Settled
-only j e (turned-away r l) q = (refusal r l e, refl, λ y h. h)
-only j e (accepted h c) q =
-    let y = one-reduced-list (h .lines) c (passed-valid (judged-accepted (takes j) e q)) in
+settled-one j e (turned-away r l) v = (refusal r l e, refl, λ y h. h)
+settled-one j e (accepted h c) v =
+    let y = one-reduced-list (h .lines) c (v h c refl) in
     (answered j e h (y .0), (y .0, y .1, refl), λ x z. z .2 ∙ ap (answered j e h) (sym (y .2 (z .0) (z .1))))
 
 -- the contract binds completely
 pub says-one : (j : Job) (e : Entry) → One (Says j e)
 unfolding Says
-says-one j e = only j e (judged (takes j) e) refl
+says-one j e = settled-one j e (judged (takes j) e) (λ h c q. passed-valid (judged-accepted (takes j) e q))

@@ -1,5 +1,5 @@
 -- The starred examples hold, and those of negated controls, of spare lines and of rules 7 and 8. Assumes nothing.
-use mathlib.Core.Path.{_≡_, refl, sym, ap, _∙_}
+use mathlib.Core.Path.{_≡_, refl, sym, ap, _∙_, subst}
 use mathlib.Core.Bool.{Bool, true, false, not, _&&_, true≢false}
 use mathlib.Core.List.{List, [], _∷_}
 use Prim.Native.Nat.{ℕ, _≤_}
@@ -12,7 +12,7 @@ use Rattle.gates.specs.Every.{Every}
 use Rattle.gates.specs.declared.Gate.{Gate}
 use Rattle.gates.specs.Reduced.{Reduced}
 use Rattle.gates.specs.Circuit as C
-use Rattle.gates.specs.Circuit.{slot, power, powered}
+use Rattle.gates.specs.Circuit.{slot, power, powered, AllValid}
 use Rattle.meaning.specs.Pattern.{has}
 use Rattle.gates.specs.Inverse.{inverse, inverted}
 use Rattle.cascades.specs.Expansion.{_⨾_, joined, lines-outside, mct-spares, first-spare, expand, expand-with, expansion}
@@ -29,20 +29,20 @@ use Rattle.text.specs.Reading.{strip, second, num, tail, pair, list, many, line
 use Rattle.text.specs.Judging as J
 use Rattle.text.specs.declared.Kind.{Kind}
 use Rattle.text.specs.Judging.{Judged, turned-away, accepted, belongs, most, any-from, rising, first, head-rules, rules, or-else, judge-lines, judge-text, read-all, judge}
-use Rattle.jobs.specs.Jobs.{Job, mapping, reducing, takes, wanted, Entry, Exit, judged, written, put-out, answered, Says}
+use Rattle.jobs.specs.Jobs.{Job, mapping, reducing, takes, wanted, Entry, Exit, judged, written, put-out, answered, Settled, Says}
 use Rattle.jobs.specs.Examples.{typed, Answer, text, quote, away, Row, gives, expands, Shows, Gets, Correct, table, signed-table, published-table, wide-table}
 use Rattle.jobs.proofs.Habits.{judged-sized}
 use Rattle.jobs.proofs.One.{judged-accepted, passed-valid, is-nf}
-use Rattle.jobs.proofs.Demands.{text-wanted, count-wanted, says-accepted, says-turned-away, area-front, refusal-is}
+use Rattle.jobs.proofs.Demands.{text-wanted, count-wanted, area-front, refusal-is}
 
 -- rules 1 and 2 let a short text and a long list pass
-judged-is : (k : Kind) (e : Entry) (s : List ℕ) → e .text ≡ s → length s ≤ 60000 → 4096 ≤ length (e .list) → judged k e ≡ judge k s
+pub judged-is : (k : Kind) (e : Entry) (s : List ℕ) → e .text ≡ s → length s ≤ 60000 → 4096 ≤ length (e .list) → judged k e ≡ judge k s
 unfolding judged
 judged-is k e s q h l = judged-sized k (e .text) (length (e .list)) (record { small = rw q h; room = (l, tt) }) ∙ ap (judge k) q
 
 -- the answer is computed from the normal form
-answered-nf : (j : Job) (e : Entry) {h : Head} {c r : List Gate} {x : Exit} → judged (takes j) e ≡ accepted h c → Reduced (h .lines) c r → x ≡ answered j e h r → x ≡ answered j e h (nf c)
-answered-nf j e {h} q w i = i ∙ ap (answered j e h) (is-nf (passed-valid (judged-accepted (takes j) e q)) w)
+answered-nf : (j : Job) (e : Entry) {h : Head} {c r : List Gate} {x : Exit} → AllValid (h .lines) c → Reduced (h .lines) c r → x ≡ answered j e h r → x ≡ answered j e h (nf c)
+answered-nf j e {h} v w i = i ∙ ap (answered j e h) (is-nf v w)
 
 text-shown : (e : Entry) (x : Exit) (r : List Gate) (s : List ℕ) → length s ≤ length (e .area) → x ≡ written e r s → (x .number ≡ 0) × (x .gates ≡ length r) × (x .bytes ≡ length s) × (take (x .bytes) (x .area) ≡ s)
 unfolding written
@@ -51,25 +51,25 @@ text-shown e x r s h q = let z = rw (le-ltb (length (e .area)) (length s) h) at 
 
 -- ---- a row is tested by computing: its text is judged, and the normal form is compared
 
-abbrev same : List ℕ → List ℕ → Bool
+abbrev pub same : List ℕ → List ℕ → Bool
 same [] [] = true
 same [] (b ∷ t) = false
 same (a ∷ s) [] = false
 same (a ∷ s) (b ∷ t) = eqb a b && same s t
 
-same-is : (s t : List ℕ) → same s t ≡ true → s ≡ t
+pub same-is : (s t : List ℕ) → same s t ≡ true → s ≡ t
 same-is [] [] e = refl
 same-is [] (b ∷ t) e = absurd (true≢false (sym e))
 same-is (a ∷ s) [] e = absurd (true≢false (sym e))
 same-is (a ∷ s) (b ∷ t) e = let u = both (eqb a b) (same s t) e in let x = eqb-true a b (u .0) in let y = same-is s t (u .1) in cc
 
-unfoldable answers : Job → ℕ → List Gate → Answer → Bool
+unfoldable pub answers : Job → ℕ → List Gate → Answer → Bool
 answers j n r (text out g b) = same (circuit-text n r) (typed out) && (ltb 0 (length (typed out)) && (eqb (length r) g && eqb (length (typed out)) b))
 answers mapping n r (quote g) = eqb (length r) g
 answers reducing n r (quote g) = false
 answers j n r (away m l) = false
 
-unfoldable fits : Job → Judged → Answer → Bool
+unfoldable pub fits : Job → Judged → Answer → Bool
 fits j (accepted h c) a = answers j (h .lines) (nf c) a
 fits j (turned-away r l) (text out g b) = false
 fits j (turned-away r l) (quote g) = false
@@ -104,21 +104,23 @@ answers-shown mapping e x h r (quote g) m z t =
 answers-shown reducing e x h r (quote g) m z t = absurd (true≢false (sym t))
 answers-shown j e x h r (away k l) m z t = absurd (true≢false (sym t))
 
-fits-shown : (j : Job) (e : Entry) (x : Exit) (d : Judged) (a : Answer) → judged (takes j) e ≡ d → Gets a (e .area) → Says j e x → fits j d a ≡ true → Shows a x
-unfolding fits Shows answered
-fits-shown j e x (accepted h c) a p m y t = let w = says-accepted j e x y p in answers-shown j e x h (nf c) a m (answered-nf j e p (w .1) (w .2)) t
-fits-shown j e x (turned-away r l) (text out g b) p m y t = absurd (true≢false (sym t))
-fits-shown j e x (turned-away r l) (quote g) p m y t = absurd (true≢false (sym t))
-fits-shown j e x (turned-away r l) (away k i) p m y t =
-    let z = refusal-is r l e (says-turned-away j e x y p) in
+-- a job that answers as j does, by what was judged
+pub fits-shown : (j : Job) (e : Entry) (x : Exit) (d : Judged) (a : Answer) → ((h : Head) (c : List Gate) → d ≡ accepted h c → AllValid (h .lines) c) → Gets a (e .area) → Settled j e d x → fits j d a ≡ true → Shows a x
+unfolding fits Shows answered Settled
+fits-shown j e x (accepted h c) a v m y t = answers-shown j e x h (nf c) a m (answered-nf j e (v h c refl) (y .1) (y .2)) t
+fits-shown j e x (turned-away r l) (text out g b) v m y t = absurd (true≢false (sym t))
+fits-shown j e x (turned-away r l) (quote g) v m y t = absurd (true≢false (sym t))
+fits-shown j e x (turned-away r l) (away k i) v m y t =
+    let z = refusal-is r l e y in
     let u = both (eqb (number-of r) k) (eqb l i) t in
     (z .0 ∙ eqb-true (number-of r) k (u .0), z .1 ∙ eqb-true l i (u .1), z .2 .0, z .2 .1)
 
 test-correct : (r : Row) → test r ≡ true → Correct r
-unfolding test Correct
+unfolding test Correct Says
 test-correct (gives j ls a) t = λ e x q l m y.
     let u = both (not (ltb 60000 (length (typed ls)))) (fits j (judge (takes j) (typed ls)) a) t in
-    fits-shown j e x (judge (takes j) (typed ls)) a (judged-is (takes j) e (typed ls) q (ltb-false 60000 (length (typed ls)) (not-true (ltb 60000 (length (typed ls))) (u .0))) l) m y (u .1)
+    let i = judged-is (takes j) e (typed ls) q (ltb-false 60000 (length (typed ls)) (not-true (ltb 60000 (length (typed ls))) (u .0))) l in
+    fits-shown j e x (judge (takes j) (typed ls)) a (λ h c k. passed-valid (judged-accepted (takes j) e (i ∙ k))) m (subst (λ (d : Judged). Settled j e d x) i y) (u .1)
 test-correct (expands n cs t s m) h = let u = both (eqb (first-spare (mct-spares n cs t)) s) (eqb (length (expansion n cs t)) m) h in (eqb-true (first-spare (mct-spares n cs t)) s (u .0), eqb-true (length (expansion n cs t)) m (u .1))
 
 tests-correct : (rs : List Row) → tests rs ≡ true → Every Correct rs

@@ -10,6 +10,7 @@ use Rattle.gates.specs.declared.Gate.the-variants.{Not}
 use Rattle.gates.specs.Reduced.{Reduced}
 use Rattle.gates.specs.Code.{gates}
 use Rattle.records.specs.declared.Done.{Done}
+use Rattle.records.specs.declared.DoneText.{DoneText}
 use Rattle.records.specs.declared.DoneTwo.{DoneTwo}
 use Rattle.records.specs.declared.TextOutcome.{TextOutcome}
 use Rattle.records.specs.declared.Filling.{Filling}
@@ -44,10 +45,24 @@ pub record Settles (number room : ℕ) (f : Filling) : Type 0 where
   pub fits : Fits f room
   pub limit : f .limit ≡ limit-of number room
 
--- what the covered part promises: it is given only the length of the gate list, and the job says it of every list of that length
-pub record Hands (j : Job) (s : List ℕ) (room : ℕ) (a : List ℕ) (d : Done) (a′ : List ℕ) : Type 0 where
+-- what the covered part promises, where it is to say `Says` of the gate list: it is given only the length of the list, and says it of every list of
+-- that length; a′ is the area at exit
+pub record HandsOne (Says : List Gate → Exit → Type 0) (room : ℕ) (d : Done) (a′ : List ℕ) : Type 0 where
   pub settles : Settles (d .outcome .number) room (d .filling)
-  pub tells : (l : List Gate) → length l ≡ room → Said j s l a (d .outcome) (filled-by (d .filling) l) a′
+  pub tells : (l : List Gate) → length l ≡ room → Says l (exit-of (d .outcome) (filled-by (d .filling) l) a′)
+
+-- so that of map and of reduce
+abbrev pub Hands : Job → List ℕ → ℕ → List ℕ → Done → List ℕ → Type 0
+Hands j s room a d a′ = HandsOne (λ l x. Says j (record { text = s; list = l; area = a }) x) room d a′
+
+-- the same of a job over several texts and one gate list: its exit with this outcome, this list and this area
+abbrev pub exit-of-text : TextOutcome → List Gate → List ℕ → habits.Exit
+exit-of-text o l a = record { number = o .number; line = o .line; text = o .text; count = o .count; lent = record { lists = l ∷ []; area = a } }
+
+-- and what its covered part promises
+pub record HandsText (Says : List Gate → habits.Exit → Type 0) (room : ℕ) (d : DoneText) (a′ : List ℕ) : Type 0 where
+  pub settles : Settles (d .outcome .number) room (d .filling)
+  pub tells : (l : List Gate) → length l ≡ room → Says l (exit-of-text (d .outcome) (filled-by (d .filling) l) a′)
 
 -- the same of a job over several texts and two gate lists, without an answer area: its exit with this outcome and these lists
 abbrev pub exit-of-two : TextOutcome → List Gate → List Gate → habits.Exit
@@ -110,6 +125,10 @@ succeeded-two m n count room room′ codes codes′ = record {
   second = success-filling n room′ codes′;
   outcome = record { number = 0; line = 0; text = 0; count = count };
 }
+
+-- what a job over one text hands over, as one over several texts does: with a text number, and the bytes for the count
+unfoldable pub with-text : (text : ℕ) → Done → DoneText
+with-text t d = record { filling = d .filling; outcome = record { number = d .outcome .number; line = d .outcome .line; text = t; count = d .outcome .bytes } }
 
 -- the first m codes as a text
 abbrev pub text-of : Head → ℕ → List ℕ → List ℕ

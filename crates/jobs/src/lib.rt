@@ -3,6 +3,7 @@ use gates::Gate;
 use loading::Loaded;
 use loading::Verdict;
 use records::Done;
+use records::DoneText;
 use records::DoneTwo;
 use records::Filling;
 use records::Outcome;
@@ -21,7 +22,7 @@ ghost use Rattle.loading.specs.Seen.{seen-verdict};
 ghost use Rattle.loading.specs.Loaded.{Renderable, LoadsTo};
 ghost use Rattle.habits.specs.Habits.{size-rules};
 ghost use Rattle.jobs.specs.Jobs.{mapping, reducing, output, writes, judged-text, Says};
-ghost use Rattle.jobs.specs.Handing.{LoadsReduced, Hands, Own, refusal-filling, success-filling, refused, refused-two, succeeded-two, succeeded, written-done, written-area, quotes, put-done, put-area, loaded-done, loaded-area, Answerable};
+ghost use Rattle.jobs.specs.Handing.{LoadsReduced, Hands, Own, refusal-filling, success-filling, refused, refused-two, succeeded-two, succeeded, written-done, written-area, with-text, quotes, put-done, put-area, loaded-done, loaded-area, Answerable};
 
 // How many records a refusal writes: none for 1 and 2, else all.
 fn limit(number: u8, room: usize) -> usize
@@ -57,7 +58,7 @@ fn succeed_list(m: usize, room: usize, codes: [u16; 4096]) -> Filling
 }
 
 // A refusal, with its line.
-fn refuse(r: Refusal, line: usize, room: usize, codes: [u16; 4096]) -> Done
+pub fn refuse(r: Refusal, line: usize, room: usize, codes: [u16; 4096]) -> Done
     ensures { λ d. ⌜ d ≡ refused r line room codes ⌝ }
 {
     let filling = refuse_list(r, room, codes);
@@ -68,6 +69,21 @@ fn refuse(r: Refusal, line: usize, room: usize, codes: [u16; 4096]) -> Done
         bytes: 0,
     };
     Done { filling, outcome }
+}
+
+// What a job over one text hands over, as one over several texts does: with a text number, and the bytes for the count.
+pub fn with_text(d: Done, text: u8) -> DoneText
+    ensures { λ r. ⌜ r ≡ with-text text d ⌝ }
+{
+    let filling = d.filling;
+    let said = d.outcome;
+    let outcome = TextOutcome {
+        number: said.number,
+        line: said.line,
+        text,
+        count: said.bytes,
+    };
+    DoneText { filling, outcome }
 }
 
 // A refusal of a job over two gate lists, at a line of the text of this number.
@@ -139,7 +155,7 @@ fn succeed(gates: usize, bytes: usize, room: usize, codes: [u16; 4096]) -> Done
 }
 
 // The first m codes written as a circuit text, where the answer area has room for it.
-fn answer_text(head: Head, m: usize, room: usize, codes: [u16; 4096], answer: &mut [u8]) -> Done
+pub fn answer_text(head: Head, m: usize, room: usize, codes: [u16; 4096], answer: &mut [u8]) -> Done
     requires { ⌜ Renderable head m codes ⌝ }
     ensures { λ d. ⌜ (d ≡ written-done head m room codes (now (answer .entry))) × (now (answer .exit) ≡ written-area head m codes (now (answer .entry))) ⌝ }
 {
@@ -180,7 +196,7 @@ fn put_out(
 }
 
 // The answer of the job over a text of this kind, by the reduced list or the refusal.
-fn answer_loaded(
+pub fn answer_loaded(
     kind: Kind,
     loaded: Loaded,
     room: usize,

@@ -33,6 +33,12 @@ pub struct Done {
     pub outcome: Outcome,
 }
 
+// What that of a job over several texts and one gate list hands over.
+pub struct DoneText {
+    pub filling: Filling,
+    pub outcome: TextOutcome,
+}
+
 // What that of a job over several texts and two gate lists hands over.
 pub struct DoneTwo {
     pub first: Filling,

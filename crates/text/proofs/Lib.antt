@@ -4,6 +4,7 @@ pub mod Printed
 pub mod Rising
 pub mod Accepted
 pub mod Written
+pub mod Longest
 pub mod Cursor
 pub mod Unambiguous
 pub mod JudgedBy

@@ -1,7 +1,7 @@
--- The numbers of document 01's ten refusals. Assumes nothing.
+-- The numbers of the refusals: document 01's ten, then those that document 02's orders add. Assumes nothing.
 use Prim.Native.Nat.{ℕ}
 use Rattle.text.specs.declared.Refusal.{Refusal}
-use Rattle.text.specs.declared.Refusal.the-variants.{Overlong, ShortList, Malformed, NoSuchLine, Crossed, Unsorted, TooWide, NoSpare, TooMany, ShortAnswer}
+use Rattle.text.specs.declared.Refusal.the-variants.{Overlong, ShortList, Malformed, NoSuchLine, Crossed, Unsorted, TooWide, NoSpare, TooMany, ShortAnswer, DifferentLines}
 
 abbrev pub number-of : Refusal → ℕ
 number-of Overlong = 1
@@ -14,3 +14,5 @@ number-of TooWide = 7
 number-of NoSpare = 8
 number-of TooMany = 9
 number-of ShortAnswer = 10
+-- order 7: "11, different line counts"
+number-of DifferentLines = 11

@@ -2,7 +2,7 @@
 ghost use mathlib.Core.Path.{_≡_};
 ghost use Rattle.text.specs.Refusals.{number-of};
 
-// Document 01's ten refusals.
+// The refusals: document 01's ten, then those that document 02's orders add.
 pub enum Refusal {
     Overlong,
     ShortList,
@@ -14,6 +14,7 @@ pub enum Refusal {
     NoSpare,
     TooMany,
     ShortAnswer,
+    DifferentLines,
 }
 
 // The two texts: a cascade of mct gates, and a circuit.
@@ -55,5 +56,6 @@ pub fn number(r: Refusal) -> u8
         Refusal::NoSpare => 8,
         Refusal::TooMany => 9,
         Refusal::ShortAnswer => 10,
+        Refusal::DifferentLines => 11,
     }
 }

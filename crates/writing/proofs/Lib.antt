@@ -3,3 +3,4 @@ pub mod Bytes
 pub mod Numbers
 pub mod Lines
 pub mod Examples
+pub mod Ended

@@ -19,6 +19,26 @@ extern "C" {
         answer_len: usize,
         outcome: *mut u64,
     );
+    pub fn yilgorza_invert(
+        text: *const u8,
+        text_len: usize,
+        list: *mut u16,
+        list_len: usize,
+        answer: *mut u8,
+        answer_len: usize,
+        outcome: *mut u64,
+    );
+    pub fn yilgorza_join(
+        first: *const u8,
+        first_len: usize,
+        list: *mut u16,
+        list_len: usize,
+        second: *const u8,
+        second_len: usize,
+        answer: *mut u8,
+        answer_len: usize,
+        outcome: *mut u64,
+    );
     pub fn yilgorza_compare(
         first: *const u8,
         first_len: usize,

@@ -1,12 +1,12 @@
 //! Safe calls of the C functions: each is proved for all bytes and all lengths, so
 //! a caller has nothing to see to.
 
-use crate::declared::{yilgorza_compare, yilgorza_gate};
+use crate::declared::{yilgorza_compare, yilgorza_gate, yilgorza_join};
 
 pub type Writing =
     unsafe extern "C" fn(*const u8, usize, *mut u16, usize, *mut u8, usize, *mut u64);
 
-/// Number, line, gates and bytes of map or reduce.
+/// Number, line, gates and bytes of a job over one text.
 pub fn writing(job: Writing, text: &[u8], list: &mut [u16], answer: &mut [u8]) -> [u64; 4] {
     let mut outcome = [0; 4];
     // The pointers are those of slices, with their lengths, of which those that
@@ -44,6 +44,26 @@ pub fn compare(
             second.len(),
             second_list.as_mut_ptr(),
             second_list.len(),
+            outcome.as_mut_ptr(),
+        );
+    }
+    outcome
+}
+
+/// Number, line, text and count of join.
+pub fn join(first: &[u8], list: &mut [u16], second: &[u8], answer: &mut [u8]) -> [u64; 4] {
+    let mut outcome = [0; 4];
+    // As above.
+    unsafe {
+        yilgorza_join(
+            first.as_ptr(),
+            first.len(),
+            list.as_mut_ptr(),
+            list.len(),
+            second.as_ptr(),
+            second.len(),
+            answer.as_mut_ptr(),
+            answer.len(),
             outcome.as_mut_ptr(),
         );
     }

@@ -1,7 +1,7 @@
-//! The jobs on memory that the caller lends: a list of at least 4,096 records for
-//! each text, and an answer area. A record is a gate as a number; [`gate`] reads it.
-//! One call of [`map`] gives the gates and the text, or, with an area of length 0,
-//! the gates alone:
+//! The jobs on memory that the caller lends: a list of at least 4,096 records, for
+//! [`compare`] one for each text, and an answer area. A record is a gate as a number;
+//! [`gate`] reads it. One call of [`map`] gives the gates and the text, or, with an
+//! area of length 0, the gates alone:
 //!
 //! ```
 //! use yilgorza::lent::{self, Counts};
@@ -19,11 +19,11 @@
 
 use std::cmp::Ordering;
 
-use crate::declared::{yilgorza_map, yilgorza_reduce};
+use crate::declared::{yilgorza_invert, yilgorza_map, yilgorza_reduce};
 use crate::ffi;
 use crate::{Gate, Number, Refusal, SeveralRefusal};
 
-/// How much map or reduce gives: the gates, which are the first records of the list,
+/// How much map, reduce or invert gives: the gates, which are the first records of the list,
 /// and the bytes of the circuit text, which are the first of the answer area.
 #[derive(Clone, Copy, Debug, PartialEq, Eq, Hash)]
 pub struct Counts {
@@ -40,6 +40,35 @@ pub fn map(text: &[u8], list: &mut [u16], answer: &mut [u8]) -> Result<Counts, R
 /// Reduces a circuit text. An answer area of length 0 is too short.
 pub fn reduce(text: &[u8], list: &mut [u16], answer: &mut [u8]) -> Result<Counts, Refusal> {
     result(ffi::writing(yilgorza_reduce, text, list, answer))
+}
+
+/// Inverts a circuit text: its gates reversed, v and vp exchanged, and the circuit so
+/// made reduced. An answer area of length 0 is too short.
+pub fn invert(text: &[u8], list: &mut [u16], answer: &mut [u8]) -> Result<Counts, Refusal> {
+    result(ffi::writing(yilgorza_invert, text, list, answer))
+}
+
+/// Joins two circuit texts, the first before the second, and reduces. There is one
+/// list, which is judged with the first text. It gives the bytes of the circuit text,
+/// which are the first of the answer area; the text has a line for each gate of the
+/// list, and line 1. An answer area of length 0 is too short.
+///
+/// ```
+/// use yilgorza::lent;
+///
+/// let (mut list, mut answer) = ([0; 4096], [0; 100]);
+/// let (first, second) = (b"(lines 2)\n(cn 0 1)\n", b"(lines 2)\n(v 0 1)\n");
+///
+/// let bytes = lent::join(first, &mut list, second, &mut answer).unwrap();
+/// assert_eq!(&answer[..bytes], b"(lines 2)\n(vp 0 1)\n");
+/// ```
+pub fn join(
+    first: &[u8],
+    list: &mut [u16],
+    second: &[u8],
+    answer: &mut [u8],
+) -> Result<usize, SeveralRefusal> {
+    several_result(ffi::join(first, list, second, answer))
 }
 
 /// Compares two circuit texts, each with a list of its own. A list then holds the

@@ -1,5 +1,5 @@
-//! Maps a cascade of multiple-control Toffoli gates to a list of NCV gates,
-//! reduces such a list, and says whether two such lists are one circuit.
+//! Maps a cascade of multiple-control Toffoli gates to a list of NCV gates, reduces
+//! such a list, inverts it, joins two of them, and says whether two are one circuit.
 //!
 //! ```
 //! let mapped = yilgorza::map(b"(lines 2)\n(mct (0) 1)\n").unwrap();
@@ -8,11 +8,14 @@
 //!
 //! let redrawn = b"(lines 2)\n(v 0 1)\n(v 0 1)\n";
 //! assert!(yilgorza::compare(&mapped.text, redrawn).unwrap().is_eq());
+//!
+//! let undo = yilgorza::invert(redrawn).unwrap();
+//! assert!(yilgorza::join(redrawn, &undo.text).unwrap().gates.is_empty());
 //! ```
 //!
-//! [`map`], [`reduce`] and [`compare`] bring the memory that the C functions of
-//! `include/yilgorza.h` are lent; [`lent`] has them on memory of the caller's. The
-//! quote of a cascade is the number of gates that [`map`] gives; [`lent::map`] gives
+//! [`map`], [`reduce`], [`invert`], [`join`] and [`compare`] bring the memory that the C
+//! functions of `include/yilgorza.h` are lent; [`lent`] has them on memory of the
+//! caller's. The quote of a cascade is the number of gates that [`map`] gives; [`lent::map`] gives
 //! it without the text too.
 
 mod declared;
@@ -36,7 +39,7 @@ pub enum Gate {
     Vp { control: u8, target: u8 },
 }
 
-/// The ten numbers of a refusal. A line of the text is tried against 3, 4, 5, 6, 8, 7
+/// The numbers of a refusal. A line of the text is tried against 3, 4, 5, 6, 8, 7
 /// and 9, in this order: so a gate with 16 or more controls that names every line of
 /// the circuit gets [`Number::NoSpare`], and once a line is added [`Number::TooWide`].
 #[derive(Clone, Copy, Debug, PartialEq, Eq, Hash)]
@@ -51,6 +54,9 @@ pub enum Number {
     NoSpare = 8,
     TooMany = 9,
     ShortAnswer = 10,
+    /// From [`join`] alone, once both texts are read and before it counts their gates
+    /// together.
+    DifferentLines = 11,
 }
 
 /// Why a text is turned away, and its line, counted from 1; 0 where the refusal
@@ -73,7 +79,7 @@ pub struct SeveralRefusal {
 
 impl Number {
     /// The numbers in order, from 1.
-    pub const ALL: [Number; 10] = [
+    pub const ALL: [Number; 11] = [
         Number::Overlong,
         Number::ShortList,
         Number::Malformed,
@@ -84,6 +90,7 @@ impl Number {
         Number::NoSpare,
         Number::TooMany,
         Number::ShortAnswer,
+        Number::DifferentLines,
     ];
 
     /// The refusal in a customer's words.
@@ -105,9 +112,10 @@ impl Number {
             }
             Number::TooMany => {
                 "too many gates: the 257th of a cascade, an expansion past 4,096, \
-                 or the 4,097th of a circuit"
+                 or the 4,097th of a circuit or of two that are joined"
             }
             Number::ShortAnswer => "the service lent an answer area that is too short",
+            Number::DifferentLines => "the two circuits do not have the same number of lines",
         }
     }
 }
@@ -169,6 +177,42 @@ pub fn reduce(text: &[u8]) -> Result<Circuit, Refusal> {
     circuit(lent::reduce, text)
 }
 
+/// Inverts a circuit text: its gates reversed, v and vp exchanged, and the circuit so
+/// made reduced. It undoes the circuit, so that customers can uncompute what they
+/// computed: joined with it, either way round, it gives no gates. The inverse of the
+/// inverse is what [`reduce`] gives.
+///
+/// ```
+/// let undo = yilgorza::invert(b"(lines 2)\n(not 0)\n(v 0 1)\n").unwrap();
+/// assert_eq!(undo.text, b"(lines 2)\n(vp 0 1)\n(not 0)\n");
+/// ```
+pub fn invert(text: &[u8]) -> Result<Circuit, Refusal> {
+    circuit(lent::invert, text)
+}
+
+/// Joins two circuit texts on the same number of lines, the first before the second,
+/// and reduces. As they are read they have together at most 4,096 gates.
+///
+/// ```
+/// let joined = yilgorza::join(b"(lines 2)\n(cn 0 1)\n", b"(lines 2)\n(v 0 1)\n").unwrap();
+/// assert_eq!(joined.text, b"(lines 2)\n(vp 0 1)\n");
+///
+/// let refusal = yilgorza::join(b"(lines 2)\n", b"(lines 3)\n").unwrap_err();
+/// assert_eq!(refusal.number, yilgorza::Number::DifferentLines);
+/// ```
+pub fn join(first: &[u8], second: &[u8]) -> Result<Circuit, SeveralRefusal> {
+    let mut list = vec![0; LIST_RECORDS];
+    let mut answer = vec![0; ANSWER_BYTES];
+    let bytes = lent::join(first, &mut list, second, &mut answer)?;
+    answer.truncate(bytes);
+    // Line 1 is no gate, and each later line is one.
+    let gates = answer.iter().filter(|byte| **byte == b'\n').count() - 1;
+    Ok(Circuit {
+        gates: read_gates(&list[..gates]),
+        text: answer,
+    })
+}
+
 /// Compares two circuit texts: by the number of lines of the circuit, then by the
 /// dictionary order of the reduced lists, a list that ends sooner first. They are
 /// equal exactly if they are on the same number of lines and passes and merges lead
@@ -192,9 +236,13 @@ fn circuit(job: Writing, text: &[u8]) -> Result<Circuit, Refusal> {
     let mut answer = vec![0; ANSWER_BYTES];
     let counts = job(text, &mut list, &mut answer)?;
     answer.truncate(counts.bytes);
-    let gate = |record: &u16| lent::gate(*record).expect("a list given holds gates");
     Ok(Circuit {
-        gates: list[..counts.gates].iter().map(gate).collect(),
+        gates: read_gates(&list[..counts.gates]),
         text: answer,
     })
+}
+
+fn read_gates(records: &[u16]) -> Vec<Gate> {
+    let gate = |record: &u16| lent::gate(*record).expect("a list given holds gates");
+    records.iter().map(gate).collect()
 }

@@ -1,10 +1,12 @@
 //! The examples of document 01, negated controls, spare lines, the order of circuits,
-//! and what is left in memory that a caller lends.
+//! inverses and joins, and what is left in memory that a caller lends.
 
 use std::cmp::Ordering;
 
 use yilgorza::lent::{self, Counts};
-use yilgorza::{compare, map, reduce, Circuit, Gate, Number, Refusal, SeveralRefusal};
+use yilgorza::{
+    compare, invert, join, map, reduce, Circuit, Gate, Number, Refusal, SeveralRefusal,
+};
 
 /// A text of these lines.
 fn text(lines: &[&str]) -> Vec<u8> {
@@ -394,6 +396,168 @@ fn comparisons() {
     assert!(sorted.windows(2).all(|pair| pair[0].0 <= pair[1].0));
 }
 
+/// What undoes the list of the Toffoli gate, as a reduced list: its gates reversed, v
+/// and vp exchanged, and `vp 0 2` brought before `v 1 2`.
+const TOFFOLI_UNDONE: [&str; 6] = [
+    "(lines 3)",
+    "(cn 0 1)",
+    "(vp 0 2)",
+    "(v 1 2)",
+    "(cn 0 1)",
+    "(vp 1 2)",
+];
+
+#[test]
+fn inverses() {
+    let cases: [(&[&str], &[&str]); 8] = [
+        (&["(lines 32)"], &["(lines 32)"]),
+        (&["(lines 1)", "(not 0)"], &["(lines 1)", "(not 0)"]),
+        (&["(lines 2)", "(v 0 1)"], &["(lines 2)", "(vp 0 1)"]),
+        (&["(lines 2)", "(vp 1 0)"], &["(lines 2)", "(v 1 0)"]),
+        (
+            &["(lines 2)", "(v 0 1)", "(v 0 1)"],
+            &["(lines 2)", "(cn 0 1)"],
+        ),
+        (
+            &["(lines 2)", "(not 0)", "(cn 0 1)"],
+            &["(lines 2)", "(cn 0 1)", "(not 0)"],
+        ),
+        (
+            &["(lines 3)", "(cn 0 1)", "(v 1 2)", "(cn 2 0)"],
+            &["(lines 3)", "(cn 2 0)", "(vp 1 2)", "(cn 0 1)"],
+        ),
+        (&TOFFOLI_MAPPED, &TOFFOLI_UNDONE),
+    ];
+    for (given, undone) in cases {
+        let inverse = invert(&text(given)).unwrap();
+        assert_eq!(inverse.text, text(undone));
+        assert_eq!(inverse.gates.len(), undone.len() - 1);
+        assert_eq!(invert(&inverse.text), reduce(&text(given)));
+    }
+    let last = invert(&text(&TOFFOLI_MAPPED)).unwrap().gates[4];
+    let (control, target) = (1, 2);
+    assert_eq!(last, Gate::Vp { control, target });
+}
+
+/// Every drawing of every circuit, joined with its inverse either way round, gives no
+/// gates; and the inverse of the inverse is the circuit's reduced list.
+#[test]
+fn what_was_computed_is_uncomputed() {
+    for drawn in RISING.concat() {
+        let given = text(drawn);
+        let undo = invert(&given).unwrap();
+        let nothing = Circuit {
+            text: text(&drawn[..1]),
+            gates: vec![],
+        };
+        assert_eq!(join(&given, &undo.text).as_ref(), Ok(&nothing));
+        assert_eq!(join(&undo.text, &given).as_ref(), Ok(&nothing));
+        assert_eq!(invert(&undo.text), reduce(&given));
+        // A circuit that was drawn otherwise is undone by the same list.
+        let reduced = reduce(&given).unwrap().text;
+        assert_eq!(join(&reduced, &undo.text), Ok(nothing));
+        assert_eq!(invert(&reduced), Ok(undo));
+    }
+}
+
+#[test]
+fn joins() {
+    let cases: [(&[&str], &[&str], &[&str]); 8] = [
+        (&["(lines 7)"], &["(lines 7)"], &["(lines 7)"]),
+        (
+            &["(lines 2)", "(cn 0 1)"],
+            &["(lines 2)", "(v 0 1)"],
+            &["(lines 2)", "(vp 0 1)"],
+        ),
+        // The first stands before the second, unless they pass.
+        (
+            &["(lines 2)", "(not 0)"],
+            &["(lines 2)", "(cn 0 1)"],
+            &["(lines 2)", "(not 0)", "(cn 0 1)"],
+        ),
+        (
+            &["(lines 2)", "(cn 0 1)"],
+            &["(lines 2)", "(not 0)"],
+            &["(lines 2)", "(cn 0 1)", "(not 0)"],
+        ),
+        (
+            &["(lines 2)", "(cn 0 1)"],
+            &["(lines 2)", "(not 1)"],
+            &["(lines 2)", "(not 1)", "(cn 0 1)"],
+        ),
+        (
+            &["(lines 3)", "(cn 0 2)", "(cn 1 2)"],
+            &["(lines 3)", "(cn 0 2)"],
+            &["(lines 3)", "(cn 1 2)"],
+        ),
+        (
+            &["(lines 3)"],
+            &["(lines 3)", "(v 1 2)", "(v 1 2)"],
+            &["(lines 3)", "(cn 1 2)"],
+        ),
+        (&TOFFOLI_MAPPED, &TOFFOLI_UNDONE, &["(lines 3)"]),
+    ];
+    for (first, second, expected) in cases {
+        let joined = join(&text(first), &text(second)).unwrap();
+        assert_eq!(joined.text, text(expected));
+        // It is what reduce gives to both texts put together.
+        let both = text(&[first, &second[1..]].concat());
+        assert_eq!(reduce(&both), Ok(joined));
+    }
+    // The same gate twice does not vanish: document 01 quotes it 9.
+    let mapped = text(&TOFFOLI_MAPPED);
+    assert_eq!(join(&mapped, &mapped).unwrap().gates.len(), 9);
+}
+
+#[test]
+fn refusals_of_joins() {
+    let nots = |lines: &'static str, gates| text(&[vec![lines], vec!["(not 0)"; gates]].concat());
+    let on_one = |gates| nots("(lines 1)", gates);
+    let no_gates = || {
+        Ok(Circuit {
+            text: text(&["(lines 1)"]),
+            gates: vec![],
+        })
+    };
+
+    // The circuits as read have together 4,096 gates, and one more; the line is that of
+    // the first gate over, whatever comes after it.
+    for (first, second) in [(0, 4096), (1, 4095), (2048, 2048), (4095, 1), (4096, 0)] {
+        assert_eq!(join(&on_one(first), &on_one(second)), no_gates());
+    }
+    for first in [1, 2, 2048, 4095, 4096] {
+        let line = 4096 - first as u64 + 2;
+        for second in [4097 - first, 4096] {
+            let over = join(&on_one(first), &on_one(second));
+            assert_eq!(over, refused_text(Number::TooMany, line, 2));
+        }
+    }
+
+    // Another number of lines is told before that, and after what is wrong with a text.
+    let different = refused_text(Number::DifferentLines, 0, 0);
+    assert_eq!(join(&on_one(1), &nots("(lines 2)", 1)), different);
+    assert_eq!(join(&nots("(lines 32)", 0), &on_one(0)), different);
+    assert_eq!(join(&on_one(4096), &nots("(lines 2)", 4096)), different);
+    let crossed = text(&["(lines 2)", "(v 1 1)"]);
+    assert_eq!(
+        join(&on_one(4096), &crossed),
+        refused_text(Number::Crossed, 2, 2)
+    );
+    assert_eq!(
+        join(&crossed, &on_one(4096)),
+        refused_text(Number::Crossed, 2, 1)
+    );
+    assert_eq!(
+        join(&on_one(0), b"(lines 2)\n").unwrap_err().to_string(),
+        "(turned-away 11 0 0): the two circuits do not have the same number of lines"
+    );
+    assert_eq!(
+        join(&on_one(4096), &on_one(1)).unwrap_err().to_string(),
+        "(turned-away 9 2 2): the second text: too many gates: the 257th of a cascade, an \
+         expansion past 4,096, or the 4,097th of a circuit or of two that are joined"
+    );
+}
+
 #[test]
 fn refusals_of_two_texts() {
     let good = text(&["(lines 2)", "(cn 0 1)"]);
@@ -417,10 +581,16 @@ fn refusals_of_two_texts() {
         let first = refused_text(*number, *line, 1);
         assert_eq!(compare(bad, &good), first);
         assert_eq!(compare(&good, bad), refused_text(*number, *line, 2));
+        assert_eq!(join(bad, &good), refused_text(*number, *line, 1));
+        assert_eq!(join(&good, bad), refused_text(*number, *line, 2));
         // The first text is judged whole before the second is looked at.
         for (other, _, _) in &cases {
             assert_eq!(compare(bad, other), first);
+            assert_eq!(join(bad, other), refused_text(*number, *line, 1));
         }
+        // With one text it is the refusal of reduce and invert.
+        assert_eq!(reduce(bad), refused(*number, *line));
+        assert_eq!(invert(bad), refused(*number, *line));
     }
     assert_eq!(
         compare(&text(&full), &text(&["(lines 2)"])),
@@ -462,10 +632,15 @@ type Job = fn(&[u8], &mut [u16], &mut [u8]) -> Result<Counts, Refusal>;
 fn lent_memory() {
     let toffoli = text(&TOFFOLI);
     let mapped = text(&TOFFOLI_MAPPED);
+    let undone = text(&TOFFOLI_UNDONE);
     let bytes = mapped.len();
 
-    // map and reduce give this list the same counts, list and text.
-    for (job, given) in [(lent::map as Job, &toffoli), (lent::reduce, &mapped)] {
+    // map, reduce and invert give this list the same counts, list and text.
+    for (job, given) in [
+        (lent::map as Job, &toffoli),
+        (lent::reduce, &mapped),
+        (lent::invert, &undone),
+    ] {
         let (mut list, mut answer) = (vec![7; 4100], vec![7; bytes + 1]);
         let counts = job(given, &mut list, &mut answer);
         assert_eq!(counts, Ok(Counts { gates: 5, bytes }));
@@ -510,11 +685,97 @@ fn an_answer_area_of_length_0() {
     let empty = left(lent::map, b"", 4096);
     assert_eq!(empty, (refused(Number::Malformed, 1), vec![2; 4096]));
 
-    // For reduce such an area is too short, after everything else.
-    let reduced = left(lent::reduce, &text(&TOFFOLI_MAPPED), 4096);
-    assert_eq!(reduced, (refused(Number::ShortAnswer, 0), vec![2; 4096]));
-    let cascade = left(lent::reduce, &toffoli, 4096);
-    assert_eq!(cascade, (refused(Number::Malformed, 2), vec![2; 4096]));
+    // For reduce and invert such an area is too short, after everything else.
+    for job in [lent::reduce as Job, lent::invert] {
+        let reduced = left(job, &text(&TOFFOLI_MAPPED), 4096);
+        assert_eq!(reduced, (refused(Number::ShortAnswer, 0), vec![2; 4096]));
+        let cascade = left(job, &toffoli, 4096);
+        assert_eq!(cascade, (refused(Number::Malformed, 2), vec![2; 4096]));
+        let short = left(job, &toffoli, 4095);
+        assert_eq!(short, (refused(Number::ShortList, 0), vec![7; 4095]));
+    }
+}
+
+#[test]
+fn an_answer_area_goes_by_the_answer_of_its_own_job() {
+    // v becomes vp: a byte more than reduce takes.
+    let given = text(&["(lines 2)", "(v 0 1)"]);
+    let mut list = vec![7; 4096];
+    let mut answer = vec![7; given.len()];
+    let bytes = given.len();
+    let reduced = lent::reduce(&given, &mut list, &mut answer);
+    assert_eq!(reduced, Ok(Counts { gates: 1, bytes }));
+    let inverted = lent::invert(&given, &mut list, &mut answer);
+    assert_eq!(inverted, refused(Number::ShortAnswer, 0));
+    answer.push(7);
+    let bytes = answer.len();
+    let inverted = lent::invert(&given, &mut list, &mut answer);
+    assert_eq!(inverted, Ok(Counts { gates: 1, bytes }));
+}
+
+#[test]
+fn memory_lent_to_join() {
+    let ordered = text(&["(lines 3)", "(v 1 2)"]);
+    let other = text(&["(lines 3)", "(v 1 2)", "(not 0)"]);
+    let joined = text(&["(lines 3)", "(not 0)", "(cn 1 2)"]);
+    let elsewhere = text(&["(lines 2)", "(not 0)"]);
+    let long = vec![b'('; 60001];
+
+    // What a list and an area of these lengths, full of 7, hold after the call.
+    let left = |first: &[u8], records, second: &[u8], room| {
+        let (mut list, mut answer) = (vec![7; records], vec![7; room]);
+        let result = lent::join(first, &mut list, second, &mut answer);
+        (result, list, answer)
+    };
+
+    for (records, room) in [(4096, joined.len()), (5000, 100)] {
+        let (result, list, answer) = left(&ordered, records, &other, room);
+        assert_eq!(result, Ok(joined.len()));
+        assert_eq!(list[..2], [2, 274]);
+        assert!(list[2..].iter().all(|record| *record == 2));
+        assert_eq!(answer[..joined.len()], joined);
+        assert!(answer[joined.len()..].iter().all(|byte| *byte == 7));
+    }
+
+    // Refusals 1 and 2 leave the list as it was, any other `not 0` in all of it,
+    // whatever its length; and every refusal the area.
+    for (first, records, second, room, (number, line, text), record) in [
+        (&long, 0, &other, 100, (Number::Overlong, 0, 1), 7),
+        (&ordered, 4095, &long, 100, (Number::ShortList, 0, 1), 7),
+        (&ordered, 4095, &other, 0, (Number::ShortList, 0, 1), 7),
+        (&ordered, 5000, &long, 100, (Number::Overlong, 0, 2), 7),
+        (&vec![], 4096, &long, 100, (Number::Malformed, 1, 1), 2),
+        (&ordered, 5000, &vec![], 100, (Number::Malformed, 1, 2), 2),
+        (
+            &ordered,
+            5000,
+            &elsewhere,
+            0,
+            (Number::DifferentLines, 0, 0),
+            2,
+        ),
+        (&ordered, 5000, &other, 0, (Number::ShortAnswer, 0, 0), 2),
+        (
+            &ordered,
+            4096,
+            &other,
+            joined.len() - 1,
+            (Number::ShortAnswer, 0, 0),
+            2,
+        ),
+    ] {
+        let (result, list, answer) = left(first, records, second, room);
+        assert_eq!(result, refused_text(number, line, text));
+        assert_eq!(list, vec![record; records]);
+        assert_eq!(answer, vec![7; room]);
+    }
+    let full = text(&[vec!["(lines 3)"], vec!["(not 0)"; 4096]].concat());
+    let (result, list, answer) = left(&full, 4096, &other, 100);
+    assert_eq!(result, refused_text(Number::TooMany, 2, 2));
+    assert_eq!((list, answer), (vec![2; 4096], vec![7; 100]));
+    let mut rest = vec![7; 4096];
+    let both = lent::join(&ordered, &mut rest, &ordered, &mut [7; 100]);
+    assert_eq!((both, rest[0]), (Ok(19), 274));
 }
 
 #[test]

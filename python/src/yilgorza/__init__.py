@@ -1,12 +1,17 @@
 """Maps a cascade of multiple-control Toffoli gates to a list of NCV gates,
-reduces such a list, quotes its gate count, and says whether two such lists are one
-circuit.
+reduces such a list, quotes its gate count, inverts it, joins two of them, and says
+whether two are one circuit.
 
     >>> import yilgorza
     >>> yilgorza.quote("(lines 3)\\n(mct (0 1) 2)\\n").count
     5
     >>> yilgorza.compare("(lines 2)\\n(v 0 1)\\n(v 0 1)\\n", "(lines 2)\\n(cn 0 1)\\n")
     <Ordering.EQUAL: 0>
+    >>> undo = yilgorza.invert("(lines 2)\\n(v 0 1)\\n(not 0)\\n")
+    >>> undo.text
+    b'(lines 2)\\n(not 0)\\n(vp 0 1)\\n'
+    >>> yilgorza.join("(lines 2)\\n(v 0 1)\\n(not 0)\\n", undo.text).gates
+    ()
 
 A text is a str or any bytes-like object. A str stands for its UTF-8 bytes, a lone
 surrogate for its three; no character outside ASCII is in form, so a line that has
@@ -14,9 +19,10 @@ one is turned away as malformed. A file is best read as bytes: opened as a text
 its line ends are changed, and bytes of it may be.
 
 The functions are called by the module's name, yilgorza.map, yilgorza.reduce,
-yilgorza.quote and yilgorza.compare: `from yilgorza import *` brings the types
-alone, so that it hides neither the built-in map nor functools.reduce. One call of
-map gives the gates and the text; quote gives the gates alone.
+yilgorza.quote, yilgorza.invert, yilgorza.join and yilgorza.compare: `from yilgorza
+import *` brings the types alone, so that it hides neither the built-in map nor
+functools.reduce. One call of map gives the gates and the text; quote gives the
+gates alone.
 
 Calls may run at the same time in any number of threads: each lends areas of its
 own, and the interpreter runs other threads meanwhile. The shared object is loaded
@@ -52,11 +58,12 @@ Text = Union[str, bytes, bytearray, memoryview]
 
 
 class Number(IntEnum):
-    """The ten numbers of a refusal.
+    """The numbers of a refusal.
 
     A line of the text is tried against 3, 4, 5, 6, 8, 7 and 9, in this order: so a
     gate with 16 or more controls that names every line of the circuit gets NO_SPARE,
-    and once a line is added TOO_WIDE.
+    and once a line is added TOO_WIDE. DIFFERENT_LINES is join's, once both texts are
+    read and before it counts their gates together.
     """
 
     OVERLONG = 1
@@ -69,6 +76,7 @@ class Number(IntEnum):
     NO_SPARE = 8
     TOO_MANY = 9
     SHORT_ANSWER = 10
+    DIFFERENT_LINES = 11
 
     @property
     def words(self) -> str:
@@ -92,8 +100,9 @@ _WORDS = {
     Number.NO_SPARE: "a gate with three or more controls uses every line of the "
     "circuit: add a line to the circuit",
     Number.TOO_MANY: "too many gates: the 257th of a cascade, an expansion past "
-    "4,096, or the 4,097th of a circuit",
+    "4,096, or the 4,097th of a circuit or of two that are joined",
     Number.SHORT_ANSWER: "the service lent an answer area that is too short",
+    Number.DIFFERENT_LINES: "the two circuits do not have the same number of lines",
 }
 
 # The texts of a job over several, by their numbers from 1.
@@ -205,6 +214,38 @@ def quote(text: Text) -> Quote:
     TurnedAway if it is refused."""
     gates, _ = _answered("map", text, _library.NoAnswerArea())
     return Quote(len(gates), gates)
+
+
+def invert(text: Text) -> Circuit:
+    """Inverts a circuit text: its gates reversed, v and vp exchanged, and the circuit
+    so made reduced; TurnedAway if it is refused.
+
+    It undoes the circuit: joined with it, either way round, it gives no gates. The
+    inverse of the inverse is what reduce gives.
+    """
+    return _written("invert", text)
+
+
+def join(first: Text, second: Text) -> Circuit:
+    """Joins two circuit texts on the same number of lines, the first before the
+    second, and reduces; TurnedAway, with the number of the text, if one is refused,
+    and with the number 0 if they are on different numbers of lines.
+
+    As they are read the two have together at most 4,096 gates. It is what reduce
+    gives to both texts put together.
+    """
+    records = _library.GateList()
+    answer = _library.AnswerArea()
+    number, line, text, length = _library.run(
+        "join", _bytes(first), records, _bytes(second), answer
+    )
+    _accept(number, line, text)
+    written = memoryview(answer)[:length].tobytes()
+    # Line 1 is no gate, and each later line is one.
+    lines = written.count(b"\n")
+    if not lines:
+        raise InternalError("yilgorza: the answer has no line 1")
+    return Circuit(written, tuple(_gate(record) for record in records[: lines - 1]))
 
 
 def compare(first: Text, second: Text) -> Ordering:

@@ -29,6 +29,8 @@ _OUTCOME: List[Any] = [ctypes.POINTER(ctypes.c_uint64)]
 _FUNCTIONS: Dict[str, List[Any]] = {
     "map": _TEXT + _LIST + _ANSWER + _OUTCOME,
     "reduce": _TEXT + _LIST + _ANSWER + _OUTCOME,
+    "invert": _TEXT + _LIST + _ANSWER + _OUTCOME,
+    "join": _TEXT + _LIST + _TEXT + _ANSWER + _OUTCOME,
     "compare": _TEXT + _LIST + _TEXT + _LIST + _OUTCOME,
     "gate": [ctypes.c_uint16, ctypes.POINTER(ctypes.c_uint8)],
 }

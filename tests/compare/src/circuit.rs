@@ -272,6 +272,11 @@ pub fn carried(random: &mut Random, gates: &[Gate], times: usize) -> Vec<Gate> {
     gates
 }
 
+/// The inverse: the gates reversed, with v and vp exchanged.
+pub fn undone(gates: &[Gate]) -> Vec<Gate> {
+    gates.iter().rev().map(|gate| gate.undone()).collect()
+}
+
 pub fn records(gates: &[Gate]) -> Vec<u16> {
     gates.iter().map(|gate| gate.record()).collect()
 }

@@ -1,39 +1,43 @@
-//! The program over two texts against the peer's, through files. Where the peer
-//! answers, the same answer has to stand on standard output and nothing on
-//! standard error; where it complains (a file that can't be opened or read, wrong
-//! arguments), one line on standard error and nothing on standard output.
+//! The programs through files against the peer's. Where the peer answers, the same
+//! answer has to stand on standard output and nothing on standard error; where it
+//! complains (a file that can't be opened or read, wrong arguments), one line on
+//! standard error and nothing on standard output.
 
 use crate::chain::{redrawn, STEPS};
 use crate::circuit;
-use crate::programs::Written;
+use crate::programs::{Written, PROGRAMS};
 use crate::random::Random;
 use crate::report::{shown, Report};
 use crate::texts;
-use peer::comparison::program_answer;
+use peer::files::{self, Pairing, LONGEST_NAME};
+use peer::Program;
 use std::collections::BTreeMap;
 use std::ffi::OsString;
 use std::fs;
 use std::os::unix::ffi::OsStringExt;
 use std::path::{Path, PathBuf};
 
-/// The longest name of a file, in bytes.
-const LONGEST_NAME: usize = 4_095;
+/// What a program over one text finds on standard input where it has to read a file:
+/// accepted by none.
+const OTHER_INPUT: &[u8] = b"(lines 40)\n";
 
 struct Files<'a> {
     report: &'a mut Report,
-    program: PathBuf,
+    directory: PathBuf,
     random: Random,
-    /// How often each answer was expected, refusals without their line.
+    /// How often each answer of each program was expected, refusals without their
+    /// line.
     expected: BTreeMap<String, u64>,
 }
 
-/// Runs the program in the directory `scratch`, which has to be empty.
-pub fn run(report: &mut Report, program: &Path, scratch: &Path) {
+/// Runs the programs of a directory in the directory `scratch`, which has to be
+/// empty.
+pub fn run(report: &mut Report, directory: &Path, scratch: &Path) {
     let before = report.passed + report.failed;
-    let program = program.canonicalize().unwrap_or(program.to_path_buf());
+    let directory = directory.canonicalize().unwrap_or(directory.to_path_buf());
     let mut files = Files {
         report,
-        program,
+        directory,
         random: Random::seeded(47_110),
         expected: BTreeMap::new(),
     };
@@ -44,39 +48,67 @@ pub fn run(report: &mut Report, program: &Path, scratch: &Path) {
             .case(false, || format!("{}: {error}", scratch.display())),
     }
     println!(
-        "programs: compare: {} cases",
+        "programs: through files: {} cases",
         report.passed + report.failed - before
     );
 }
 
 impl Files<'_> {
     fn all(&mut self) -> std::io::Result<()> {
-        for [first, second] in pairs(&mut self.random) {
-            self.texts([&first, &second])?;
-            self.texts([&second, &first])?;
+        let mut compared = pairs(&mut self.random);
+        for [first, second] in &compared {
+            self.texts(Pairing::Compare, [first, second])?;
+            self.texts(Pairing::Compare, [second, first])?;
         }
-        self.names()
+        compared.extend(joins(&mut self.random));
+        for [first, second] in &compared {
+            self.texts(Pairing::Join, [first, second])?;
+            self.texts(Pairing::Join, [second, first])?;
+        }
+        let names = made_files()?;
+        for program in [Pairing::Compare, Pairing::Join] {
+            self.two_names(program, &names);
+        }
+        for (program, name) in PROGRAMS {
+            self.one_name(program, name, &names)?;
+        }
+        Ok(())
     }
 
     /// Tells how often each answer was expected; one that never was has failed.
     fn tell(&mut self) {
-        println!("programs: compare expected so often: {:?}", self.expected);
-        let mut due = ["less", "equal", "greater", "complaint"]
-            .map(str::to_string)
-            .to_vec();
+        println!("programs: expected so often: {:?}", self.expected);
+        let own: [(&str, &[&str]); 6] = [
+            ("compare", &["less", "equal", "greater"]),
+            ("join", &["circuit", "turned-away 11 0"]),
+            ("map", &["circuit"]),
+            ("reduce", &["circuit"]),
+            ("invert", &["circuit"]),
+            ("quote", &["quote"]),
+        ];
+        let mut due = Vec::new();
+        for (program, answers) in own {
+            due.extend(answers.iter().map(|answer| format!("{program} {answer}")));
+            due.push(format!("{program} complaint"));
+        }
         for number in [1, 3, 4, 5, 9] {
-            due.extend([1, 2].map(|text| format!("turned-away {number} {text}")));
+            for text in [1, 2] {
+                due.extend(
+                    ["compare", "join"]
+                        .map(|program| format!("{program} turned-away {number} {text}")),
+                );
+            }
         }
         for answer in due {
             self.report.case(self.expected.contains_key(&answer), || {
-                format!("compare: {answer} was never expected")
+                format!("{answer} was never expected")
             });
         }
     }
 
     /// Two texts in two files. Every fourth time one of them comes in pieces by
     /// standard input, which has a name too.
-    fn texts(&mut self, texts: [&[u8]; 2]) -> std::io::Result<()> {
+    fn texts(&mut self, program: Pairing, texts: [&[u8]; 2]) -> std::io::Result<()> {
         let names = ["first", "second"].map(OsString::from);
         for (name, text) in names.iter().zip(texts) {
             fs::write(name, text)?;
@@ -89,25 +121,26 @@ impl Files<'_> {
             piped = texts[which];
         }
         let piece = self.random.between(1, 1 + piped.len() / 3);
-        self.case(&names, &given, piped, piece, || {
+        let expected = files::two_texts(program, &names);
+        self.case(program.name(), expected, &given, (piped, piece), || {
             texts.map(shown).join(" and ")
         });
         Ok(())
     }
 
-    /// One run of the program with the names given, against the peer with the
-    /// names of the same texts.
+    /// One run of the program with these arguments, and an input that comes in pieces
+    /// of a size.
     fn case(
         &mut self,
-        names: &[OsString],
+        program: &str,
+        expected: files::Written,
         given: &[OsString],
-        piped: &[u8],
-        piece: usize,
+        (piped, piece): (&[u8], usize),
         what: impl FnOnce() -> String,
     ) {
-        let expected = program_answer(names);
-        *self.expected.entry(kind_of(&expected)).or_default() += 1;
-        let got = Written::by(&self.program, given, piped, piece);
+        let kind = format!("{program} {}", kind_of(&expected));
+        *self.expected.entry(kind).or_default() += 1;
+        let got = Written::by(&self.directory.join(program), given, piped, piece);
         let right = match (&got, &expected) {
             (Ok(written), Ok(answer)) => written.answer().as_ref() == Ok(answer),
             (Ok(written), Err(_)) => written.is_one_line_of_complaint(),
@@ -122,58 +155,15 @@ impl Files<'_> {
                 Ok(answer) => shown(&answer),
                 Err(_) => "one line on standard error only".to_string(),
             };
-            format!("compare: got {got}, expected {expected}; {}", what())
+            format!("{program}: got {got}, expected {expected}; {}", what())
         });
     }
 
-    /// Names of all kinds: odd ones that are good, files that can't be opened or
-    /// read, and wrong arguments.
-    fn names(&mut self) -> std::io::Result<()> {
-        fs::write("less", "(lines 2)\n")?;
-        fs::write("more", "(lines 2)\n(not 0)\n")?;
-        fs::write("malformed", "(lines 2)")?;
-        fs::write("overlong", [b'x'; 60_001])?;
-        fs::create_dir("folder")?;
-        std::os::unix::fs::symlink("nowhere", "dangling")?;
-        let odd = [
-            &b"a b  c"[..],
-            b"-name",
-            b"line\nend",
-            b"\xff\xfe",
-            b"folder/x",
-        ];
-        let odd = odd.map(|name| OsString::from_vec(name.to_vec()));
-        for name in &odd {
-            fs::write(name, "(lines 2)\n(v 0 1)\n")?;
-        }
-        let mut all: Vec<OsString> = [
-            "less",
-            "more",
-            "malformed",
-            "overlong",
-            "./-name",
-            "-",
-            "--",
-            "-x",
-            "--help",
-            "",
-            "none",
-            "folder",
-            "less/x",
-            "dangling",
-            "/proc/self/mem",
-            "none/less",
-        ]
-        .map(OsString::from)
-        .to_vec();
-        all.extend(odd);
-        for length in [LONGEST_NAME - 1, LONGEST_NAME, LONGEST_NAME + 1, 5_000] {
-            all.push(long_name("less", length));
-            all.push(long_name("none", length));
-        }
-        for first in &all {
-            for second in &all {
-                self.arguments(&[first, second]);
+    /// Every two of these names, and other numbers of arguments.
+    fn two_names(&mut self, program: Pairing, all: &[OsString]) {
+        for first in all {
+            for second in all {
+                self.arguments(program, &[first, second]);
             }
         }
         let [less, more] = ["less", "more"].map(OsString::from);
@@ -184,21 +174,101 @@ impl Files<'_> {
             &[&less, &more, &OsString::new()],
             &[&less, &more, &less, &more],
         ] {
-            self.arguments(few_or_many);
+            self.arguments(program, few_or_many);
+        }
+    }
+
+    fn arguments(&mut self, program: Pairing, names: &[&OsString]) {
+        let names: Vec<OsString> = names.iter().map(|&name| name.clone()).collect();
+        let expected = files::two_texts(program, &names);
+        self.case(program.name(), expected, &names, (b"", 1), || {
+            shown_names(&names)
+        });
+    }
+
+    /// Each of these names, with another text on standard input; no name, and several
+    /// names; and standard input by its name.
+    fn one_name(&mut self, program: Program, name: &str, all: &[OsString]) -> std::io::Result<()> {
+        let [less, more, cascade] = ["less", "more", "cascade"].map(OsString::from);
+        let mut given: Vec<Vec<OsString>> = all.iter().map(|name| vec![name.clone()]).collect();
+        given.push(vec![]);
+        given.push(vec![less.clone(), more.clone()]);
+        given.push(vec![less.clone(), OsString::new()]);
+        given.push(vec![OsString::new(), less.clone()]);
+        given.push(vec![less.clone(), more.clone(), less.clone()]);
+        for names in given {
+            let expected = files::one_text(program, &names, OTHER_INPUT);
+            self.case(name, expected, &names, (OTHER_INPUT, 20), || {
+                shown_names(&names)
+            });
+        }
+        for text in [less, more, cascade] {
+            let piped = fs::read(&text)?;
+            let expected = files::one_text(program, &[text], &b""[..]);
+            let names = [OsString::from("/dev/stdin")];
+            self.case(name, expected, &names, (&piped, 7), || {
+                format!("{} by the name of standard input", shown(&piped))
+            });
         }
         Ok(())
     }
+}
 
-    fn arguments(&mut self, names: &[&OsString]) {
-        let names: Vec<OsString> = names.iter().map(|&name| name.clone()).collect();
-        self.case(&names, &names, b"", 1, || {
-            let names: Vec<String> = names
-                .iter()
-                .map(|name| shown(name.as_encoded_bytes()))
-                .collect();
-            format!("arguments {}", names.join(" and "))
-        });
+fn shown_names(names: &[OsString]) -> String {
+    let names: Vec<String> = names
+        .iter()
+        .map(|name| shown(name.as_encoded_bytes()))
+        .collect();
+    format!("arguments {}", names.join(" and "))
+}
+
+/// Names of all kinds: odd ones that are good, and files that can't be opened or
+/// read.
+fn made_files() -> std::io::Result<Vec<OsString>> {
+    fs::write("less", "(lines 2)\n")?;
+    fs::write("more", "(lines 2)\n(not 0)\n")?;
+    fs::write("cascade", "(lines 2)\n(mct (0) 1)\n")?;
+    fs::write("malformed", "(lines 2)")?;
+    fs::write("overlong", [b'x'; 60_001])?;
+    fs::create_dir("folder")?;
+    std::os::unix::fs::symlink("nowhere", "dangling")?;
+    let odd = [
+        &b"a b  c"[..],
+        b"-name",
+        b"line\nend",
+        b"\xff\xfe",
+        b"folder/x",
+    ];
+    let odd = odd.map(|name| OsString::from_vec(name.to_vec()));
+    for name in &odd {
+        fs::write(name, "(lines 2)\n(v 0 1)\n")?;
     }
+    let mut all: Vec<OsString> = [
+        "less",
+        "more",
+        "malformed",
+        "overlong",
+        "./-name",
+        "-",
+        "--",
+        "-x",
+        "--help",
+        "",
+        "none",
+        "folder",
+        "less/x",
+        "dangling",
+        "/proc/self/mem",
+        "none/less",
+    ]
+    .map(OsString::from)
+    .to_vec();
+    all.extend(odd);
+    for length in [LONGEST_NAME - 1, LONGEST_NAME, LONGEST_NAME + 1, 5_000] {
+        all.push(long_name("less", length));
+        all.push(long_name("none", length));
+    }
+    Ok(all)
 }
 
 /// The name of a file made longer by steps that lead nowhere else.
@@ -208,15 +278,19 @@ fn long_name(name: &str, length: usize) -> OsString {
     OsString::from(format!("./{slash}{}{name}", "./".repeat(more / 2 - 1)))
 }
 
-/// An answer without the line of a refusal.
-fn kind_of(expected: &Result<Vec<u8>, String>) -> String {
+/// An answer without the line of a refusal, and no more than the kind of a circuit
+/// or a quote.
+fn kind_of(expected: &files::Written) -> String {
     let Ok(answer) = expected else {
         return "complaint".to_string();
     };
     let answer = String::from_utf8_lossy(answer);
     let words: Vec<&str> = answer.trim_matches(['(', ')', '\n']).split(' ').collect();
     match words[..] {
-        [word, number, _, text] => format!("{word} {number} {text}"),
+        ["turned-away", number, _] => format!("turned-away {number}"),
+        ["turned-away", number, _, text] => format!("turned-away {number} {text}"),
+        ["lines", ..] => "circuit".to_string(),
+        ["quote", ..] => "quote".to_string(),
         _ => words.join(" "),
     }
 }
@@ -268,6 +342,54 @@ fn pairs(random: &mut Random) -> Vec<[Vec<u8>; 2]> {
     }
     for shorter in [false, true, false] {
         pairs.push(drawings(random, shorter, 4_096, 3_000));
+    }
+    pairs
+}
+
+/// Pairs for join alone: circuits and their inverses, circuits that are redrawn, and
+/// gates that are together near the most that there may be.
+fn joins(random: &mut Random) -> Vec<[Vec<u8>; 2]> {
+    let mut pairs = Vec::new();
+    for most in [12, 12, 60, 60, 400, 2_000] {
+        for _ in 0..12 {
+            let lines = texts::some_lines(random);
+            let count = random.below(most + 1);
+            let gates = texts::gates(random, lines, count);
+            let inverse = circuit::undone(&gates);
+            let steps = &mut [0; STEPS.len()];
+            let drawn = redrawn(
+                random,
+                lines,
+                &inverse,
+                2 * most,
+                4_096 - gates.len(),
+                steps,
+            );
+            let count = random.below(most + 1);
+            let other = texts::gates(random, lines, count);
+            let first = circuit::text(lines, &gates);
+            for second in [inverse, drawn, other] {
+                pairs.push([first.clone(), circuit::text(lines, &second)]);
+            }
+        }
+    }
+    for total in 4_094..=4_098 {
+        for first in [0, 1, 2, 1_000, 2_048, 4_094, 4_095, 4_096] {
+            if first <= total && total - first <= 4_096 {
+                let lines = random.between(2, 32) as u8;
+                pairs.push([first, total - first].map(|count| {
+                    let gates = texts::gates_of(random, lines, count);
+                    circuit::text(lines, &gates)
+                }));
+            }
+        }
+    }
+    for [lines, other_lines] in [[2, 3], [31, 32]] {
+        let gates = [lines, other_lines].map(|lines| texts::gates_of(random, lines, 4_096));
+        pairs.push([
+            circuit::text(lines, &gates[0]),
+            circuit::text(other_lines, &gates[1]),
+        ]);
     }
     pairs
 }

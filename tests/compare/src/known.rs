@@ -125,6 +125,33 @@ pub fn all() -> Vec<Known> {
         (&wide_no_spare, refused(3, 2)),
         (&too_wide, refused(3, 2)),
     ];
+    // The gates reversed, v and vp exchanged, then reduced.
+    let invert = [
+        ("(lines 2)\n(v 0 1)\n", accepted(1, 19)),
+        ("(lines 2)\n(vp 0 1)\n", accepted(1, 18)),
+        ("(lines 2)\n(cn 0 1)\n", accepted(1, 19)),
+        ("(lines 2)\n(not 1)\n", accepted(1, 18)),
+        ("(lines 2)\n(v 0 1)\n(v 0 1)\n", accepted(1, 19)),
+        ("(lines 2)\n(cn 0 1)\n(v 0 1)\n", accepted(1, 18)),
+        ("(lines 2)\n(v 0 1)\n(vp 0 1)\n", accepted(0, 10)),
+        ("(lines 3)\n(cn 0 2)\n(cn 1 2)\n(cn 0 2)\n", accepted(1, 19)),
+        ("(lines 3)\n(cn 0 1)\n(v 1 2)\n(cn 0 1)\n", accepted(3, 37)),
+        ("(lines 3)\n(v 0 1)\n(vp 1 2)\n(v 0 1)\n", accepted(3, 36)),
+        ("(lines 2)\n(not 0)\n(vp 0 1)\n(not 0)\n", accepted(3, 34)),
+        ("(lines 32)\n", accepted(0, 11)),
+        (&full, accepted(4_096, 40_971)),
+        (&overlong, refused(1, 0)),
+        (&overlong[1..], refused(3, 1)),
+        ("", refused(3, 1)),
+        ("(lines 2)\n(v 0 1)", refused(3, 2)),
+        ("(lines 33)\n", refused(4, 1)),
+        ("(lines 2)\n(v 2 1)\n", refused(4, 2)),
+        ("(lines 2)\n(not 0)\n(v 1 1)\n", refused(5, 3)),
+        (&past_full, refused(9, 4_098)),
+        ("(lines 2)\n(v 0 1)\n(v -0 1)\n", refused(3, 3)),
+        ("(lines 2)\n(mct (0) 1)\n", refused(3, 2)),
+        (&too_wide, refused(3, 2)),
+    ];
     let known = |job| {
         move |&(text, ample): &(&str, Outcome)| Known {
             job,
@@ -133,5 +160,7 @@ pub fn all() -> Vec<Known> {
         }
     };
     let map = map.iter().map(known(Job::Map));
-    map.chain(reduce.iter().map(known(Job::Reduce))).collect()
+    let reduce = reduce.iter().map(known(Job::Reduce));
+    let invert = invert.iter().map(known(Job::Invert));
+    map.chain(reduce).chain(invert).collect()
 }

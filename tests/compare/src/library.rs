@@ -1,9 +1,9 @@
 //! The static library against the peer, on many thousands of texts: number,
 //! line, gates and bytes, every record and byte lent, and what stands beside
 //! them. What the papers say of an answer by themselves, of the answers of one text
-//! with several areas, and of negated controls (see `negated`), is asserted without
-//! the peer too; what order 5 says of spares (see `spares`), and order 6 of rules 7 and
-//! 8 (see `wide`), beside it.
+//! with several areas, of negated controls (see `negated`), and of the inverse of an
+//! inverse, is asserted without the peer too; what order 5 says of spares (see
+//! `spares`), and order 6 of rules 7 and 8 (see `wide`), beside it.
 
 use crate::built::{self, Drawn};
 use crate::circuit::{self, Gate};
@@ -17,13 +17,17 @@ use crate::texts::{self, Signs};
 use crate::wide::{self, Case, Tally};
 use peer::{Job, Outcome, Program};
 
-const JOBS: [Job; 2] = [Job::Map, Job::Reduce];
+const JOBS: [Job; 3] = [Job::Map, Job::Reduce, Job::Invert];
+/// Those over a circuit text.
+const CIRCUIT_JOBS: [Job; 2] = [Job::Reduce, Job::Invert];
 /// The calls that are counted apart, and the numbers that each can return.
-const CALLS: [(&str, &[usize]); 4] = [
+const CALLS: [(&str, &[usize]); 6] = [
     ("map", &[0, 1, 2, 3, 4, 5, 6, 7, 8, 9, 10]),
     ("map, empty area", &[0, 1, 2, 3, 4, 5, 6, 7, 8, 9]),
     ("reduce", &[0, 1, 2, 3, 4, 5, 9, 10]),
     ("reduce, empty area", &[1, 2, 3, 4, 5, 9, 10]),
+    ("invert", &[0, 1, 2, 3, 4, 5, 9, 10]),
+    ("invert, empty area", &[1, 2, 3, 4, 5, 9, 10]),
 ];
 /// How often, at least, map gives each of the numbers 0 to 10 to a text with a
 /// minus sign in it; 1 and 2 do not look at the text.
@@ -181,7 +185,7 @@ impl Library {
             "the memory beside an area"
         } else if !counts_hold(job, got, answer.inside()) {
             "what the papers say of gates and bytes"
-        } else if job == Job::Reduce && got.number == 0 && text.contains(&b'-') {
+        } else if job != Job::Map && got.number == 0 && text.contains(&b'-') {
             "what the papers say of a minus sign in a circuit"
         } else {
             ""
@@ -240,7 +244,7 @@ impl Library {
         given[1].outcome
     }
 
-    /// A text to both jobs, with some lengths of list and answer area. Gives what map
+    /// A text to all jobs, with some lengths of list and answer area. Gives what map
     /// returned for an empty one.
     fn any_job(&mut self, text: &[u8]) -> Outcome {
         let outcomes = JOBS.map(|job| {
@@ -267,6 +271,18 @@ impl Library {
             given.push(self.case(job, text, list_len, answer_len));
         }
         self.agree(job, text, &given);
+    }
+
+    /// A circuit text to both jobs over one, with such areas. They refuse the same.
+    fn circuit_areas(&mut self, text: &[u8]) {
+        for job in CIRCUIT_JOBS {
+            self.areas(job, text);
+        }
+        let given = CIRCUIT_JOBS.map(|job| self.case(job, text, 4_096, 50_000).outcome);
+        let [reduced, inverted] = given.map(|outcome| (outcome.number, outcome.line));
+        self.report.case(reduced == inverted, || {
+            format!("reduce and invert give {given:?}; text {}", shown(text))
+        });
     }
 
     /// Texts whose answer is known, on whole and short lists: every answer area up
@@ -303,13 +319,15 @@ impl Library {
     fn every_change(&mut self) {
         for text in texts::SMALL {
             for changed in texts::every_change(text.as_bytes()) {
-                let job = if text.contains("mct") {
-                    Job::Map
+                let jobs = if text.contains("mct") {
+                    &[Job::Map][..]
                 } else {
-                    Job::Reduce
+                    &CIRCUIT_JOBS
                 };
-                let answer_len = self.random.pick(&[100, 300, 10]);
-                self.with_and_without(job, &changed, 4_096, answer_len);
+                for &job in jobs {
+                    let answer_len = self.random.pick(&[100, 300, 10]);
+                    self.with_and_without(job, &changed, 4_096, answer_len);
+                }
             }
         }
         self.any_job(b"");
@@ -344,7 +362,7 @@ impl Library {
         for case in 0..12_000 {
             let most = self.random.pick(&[2, 5, 12, 40, 120]);
             let text = texts::circuit(&mut self.random, most);
-            self.areas(Job::Reduce, &text);
+            self.circuit_areas(&text);
             let most = if case % 8 == 0 { 1_500 } else { 150 };
             let text = texts::cascade(&mut self.random, 12, most);
             self.areas(Job::Map, &text);
@@ -510,19 +528,17 @@ impl Library {
             for count in 4_095..=4_098 {
                 let text = texts::circuit_of(&mut self.random, count);
                 self.any_job(&text);
-                self.areas(Job::Reduce, &text);
+                self.circuit_areas(&text);
                 let last = text[..text.len() - 1]
                     .iter()
                     .rposition(|&b| b == b'\n')
                     .unwrap()
                     + 1;
                 for line in ["(not 32)\n", "(cn 0 0)\n", "(not 0)", "(not  0)\n", "\n"] {
-                    self.case(
-                        Job::Reduce,
-                        &[&text[..last], line.as_bytes()].concat(),
-                        4_096,
-                        50_000,
-                    );
+                    let changed = [&text[..last], line.as_bytes()].concat();
+                    for job in CIRCUIT_JOBS {
+                        self.case(job, &changed, 4_096, 50_000);
+                    }
                 }
             }
         }
@@ -531,12 +547,12 @@ impl Library {
         for _ in 0..2_048 {
             text.extend_from_slice(b"(vp 30 31)\n(vp 31 30)\n");
         }
-        self.areas(Job::Reduce, &text);
+        self.circuit_areas(&text);
         // Gates that all vanish, from the inside out.
         let text = b"(lines 2)\n".to_vec();
         let there = b"(cn 0 1)\n(v 1 0)\n".repeat(1_024);
         let back = b"(vp 1 0)\n(cn 0 1)\n".repeat(1_024);
-        self.areas(Job::Reduce, &[text, there, back].concat());
+        self.circuit_areas(&[text, there, back].concat());
     }
 
     fn long(&mut self) {
@@ -544,7 +560,7 @@ impl Library {
             let most = if case % 3 == 0 { 4_096 } else { 1_500 };
             let count = self.random.between(most / 2, most);
             let text = texts::circuit_of(&mut self.random, count);
-            self.areas(Job::Reduce, &text);
+            self.circuit_areas(&text);
             let damaged = texts::damaged(&mut self.random, &text);
             self.any_job(&damaged);
             let total = self.random.between(most / 2, most);
@@ -594,10 +610,11 @@ impl Library {
             let (list_len, answer_len) = WIDE_AREAS[turn % WIDE_AREAS.len()];
             self.wide_case(case, &text, list_len, answer_len);
             if turn % 16 == 0 {
-                let got = self.case(Job::Reduce, &text, 4_096, answer_len).outcome;
+                let job = CIRCUIT_JOBS[turn / 16 % 2];
+                let got = self.case(job, &text, 4_096, answer_len).outcome;
                 self.report.case((got.number, got.line) == (3, 2), || {
                     format!(
-                        "Reduce: got {got:?}, not 3 at line 2; text {}",
+                        "{job:?}: got {got:?}, not 3 at line 2; text {}",
                         shown(&text)
                     )
                 });
@@ -647,7 +664,7 @@ impl Library {
         given
     }
 
-    /// Two linked circuits get one list.
+    /// Two linked circuits get one list, and one list for their inverses.
     fn linked(&mut self) {
         for _ in 0..1_500 {
             let lines = self.random.between(1, 9) as u8;
@@ -656,22 +673,24 @@ impl Library {
             let steps = self.random.between(1, 400);
             let end = circuit::linked(&mut self.random, lines, &start, steps, 4_096);
             let texts = [circuit::text(lines, &start), circuit::text(lines, &end)];
-            let lists = texts.each_ref().map(|text| {
-                let mut list = Area::filled(4_096, 0xffff);
-                let mut answer = Area::filled(50_000, 0);
-                let outcome = call(Job::Reduce, &Area::holding(text, 0), &mut list, &mut answer);
-                (outcome, list.inside().to_vec(), answer.inside().to_vec())
-            });
-            let gates = lists[0].0.gates;
-            self.report
-                .case(lists[0] == lists[1] && lists[0].0.number == 0, || {
-                    format!(
-                        "two linked circuits: {} and {}, {gates} gates",
-                        shown(&texts[0]),
-                        shown(&texts[1])
-                    )
+            for job in CIRCUIT_JOBS {
+                let lists = texts.each_ref().map(|text| {
+                    let mut list = Area::filled(4_096, 0xffff);
+                    let mut answer = Area::filled(50_000, 0);
+                    let outcome = call(job, &Area::holding(text, 0), &mut list, &mut answer);
+                    (outcome, list.inside().to_vec(), answer.inside().to_vec())
                 });
-            self.case(Job::Reduce, &texts[1], 4_096, 50_000);
+                let gates = lists[0].0.gates;
+                self.report
+                    .case(lists[0] == lists[1] && lists[0].0.number == 0, || {
+                        format!(
+                            "{job:?}, two linked circuits: {} and {}, {gates} gates",
+                            shown(&texts[0]),
+                            shown(&texts[1])
+                        )
+                    });
+                self.case(job, &texts[1], 4_096, 50_000);
+            }
         }
     }
 
@@ -683,17 +702,20 @@ impl Library {
                 for round in 0..60 {
                     let full = round == 0;
                     for drawn in built::drawn_twice(&mut self.random, kind, lines, full) {
-                        self.listed(name, lines, &drawn);
+                        let Drawn { gates, list } = drawn;
+                        self.listed(Job::Reduce, name, lines, &gates, &list);
+                        // The inverse of the inverse has the circuit's list.
+                        let inverse = circuit::undone(&gates);
+                        self.listed(Job::Invert, name, lines, &inverse, &list);
                     }
                 }
             }
         }
     }
 
-    fn listed(&mut self, name: &str, lines: u8, drawn: &Drawn) {
-        let Drawn { gates, list } = drawn;
+    fn listed(&mut self, job: Job, name: &str, lines: u8, gates: &[Gate], list: &[Gate]) {
         let (text, answer) = (circuit::text(lines, gates), circuit::text(lines, list));
-        let given = self.case(Job::Reduce, &text, 4_096, 50_000);
+        let given = self.case(job, &text, 4_096, 50_000);
         let expected = Outcome {
             number: 0,
             line: 0,
@@ -703,8 +725,8 @@ impl Library {
         let right = given.outcome == expected && holds(&given.list, &circuit::records(list));
         self.report.case(right, || {
             format!(
-                "{name}, {} gates: got {:?}, expected {expected:?}, or another list; text {}, \
-                 expected {}",
+                "{job:?}, {name}, {} gates: got {:?}, expected {expected:?}, or another list; \
+                 text {}, expected {}",
                 gates.len(),
                 given.outcome,
                 shown(&text),
@@ -721,16 +743,18 @@ impl Library {
                 let gates = texts::gates(&mut self.random, lines, count);
                 let again = circuit::carried(&mut self.random, &gates, 2 * count);
                 let texts = [gates, again].map(|gates| circuit::text(lines, &gates));
+                let job = self.random.pick(&CIRCUIT_JOBS);
                 let given = texts
                     .each_ref()
-                    .map(|text| self.case(Job::Reduce, text, 4_096, 50_000));
+                    .map(|text| self.case(job, text, 4_096, 50_000));
                 let right = given[0].outcome == given[1].outcome
                     && given[0].list.inside() == given[1].list.inside()
                     && given[0].outcome.number == 0;
                 self.report.case(right, || {
                     let outcomes = given.each_ref().map(|given| given.outcome);
                     format!(
-                        "a circuit and its redrawing: {outcomes:?}, or other lists; {} and {}",
+                        "{job:?}, a circuit and its redrawing: {outcomes:?}, or other lists; {} \
+                         and {}",
                         shown(&texts[0]),
                         shown(&texts[1])
                     )
@@ -774,6 +798,7 @@ fn program_answer(program: Program, text: &[u8]) -> Vec<u8> {
     let (job, answer_len) = match program {
         Program::Map => (Job::Map, LONGEST[0]),
         Program::Reduce => (Job::Reduce, LONGEST[0]),
+        Program::Invert => (Job::Invert, LONGEST[0]),
         Program::Quote => (Job::Map, 0),
     };
     let mut list = Area::filled(4_096, 0xffff);
@@ -793,7 +818,7 @@ fn program_answer(program: Program, text: &[u8]) -> Vec<u8> {
 
 /// What the papers say of gates and bytes, whatever the text: a refusal has 0 for
 /// both, a text that is written has a line for each gate and line 1; an empty area
-/// is never short for map, which writes nothing to it, and always for reduce.
+/// is never short for map, which writes nothing to it, and always for the others.
 fn counts_hold(job: Job, outcome: Outcome, answer: &[u8]) -> bool {
     let Outcome {
         number,
@@ -804,7 +829,7 @@ fn counts_hold(job: Job, outcome: Outcome, answer: &[u8]) -> bool {
     let lines = |text: &[u8]| text.iter().filter(|&&byte| byte == b'\n').count() as u64;
     match (number, job, answer.len()) {
         (0, Job::Map, 0) => bytes == 0,
-        (0, Job::Reduce, 0) | (10, Job::Map, 0) => false,
+        (0, Job::Reduce | Job::Invert, 0) | (10, Job::Map, 0) => false,
         (0, _, _) => answer
             .get(..bytes as usize)
             .is_some_and(|text| lines(text) == gates + 1),

@@ -1,13 +1,15 @@
 //! Compares the programs and the static library with the peer.
 //!
 //! `compare library`     the C functions over one text, on many thousands
-//! `compare pairs`       the C function over two texts, on many thousands of pairs
+//! `compare pairs`       the C function that compares two, on many thousands of pairs
+//! `compare joins`       the C function that joins two, on many thousands of pairs
 //! `compare programs DIRECTORY SCRATCH`
-//!                       the programs map, reduce, quote and compare in
-//!                       DIRECTORY, with files in SCRATCH
-//! `compare small`       reduce on all small circuits, map on small cascades with
-//!                       negated controls, and compare on all pairs of smaller
-//!                       circuits, against their whole link classes
+//!                       the programs map, reduce, invert, quote, compare and
+//!                       join in DIRECTORY, with files in SCRATCH
+//! `compare small`       reduce and invert on all small circuits, map on small
+//!                       cascades with negated controls, and compare and join on
+//!                       all pairs of smaller circuits, against their whole link
+//!                       classes
 //!
 //! Each part prints what it ran; its last line is `N passed, M failed`. The
 //! exit status is 0 only if N is not 0 and M is 0.
@@ -17,6 +19,7 @@ mod chain;
 mod circuit;
 mod expansion;
 mod files;
+mod joins;
 mod known;
 mod library;
 mod meaning;
@@ -38,10 +41,13 @@ fn main() -> std::process::ExitCode {
     let report = match arguments[..] {
         ["library"] => library::run(),
         ["pairs"] => pairs::run(),
+        ["joins"] => joins::run(),
         ["programs", directory, scratch] => programs::run(directory.as_ref(), scratch.as_ref()),
         ["small"] => small::run(),
         _ => {
-            eprintln!("usage: compare library | pairs | programs DIRECTORY SCRATCH | small");
+            eprintln!(
+                "usage: compare library | pairs | joins | programs DIRECTORY SCRATCH | small"
+            );
             return std::process::ExitCode::from(2);
         }
     };

@@ -1,4 +1,4 @@
-//! The C function over two texts against the peer, on many thousands of pairs,
+//! The C function that compares two texts against the peer, on many thousands of pairs,
 //! each in both orders: number, line, text and count, every record of both
 //! lists, and what stands beside the areas. Where the orders say the answer by
 //! themselves (redrawings are equal, circuits one gate apart are not, fewer lines
@@ -10,7 +10,8 @@ use crate::random::Random;
 use crate::report::{shown, Report};
 use crate::subject::{compare, Area};
 use crate::texts;
-use peer::comparison::{self, Outcome};
+use peer::comparison;
+use peer::several::Outcome;
 use peer::Program;
 use std::cmp::Ordering;
 

@@ -1,6 +1,6 @@
 //! The programs against the peer: those over one text from standard input to
-//! standard output, nothing on standard error, exit status 0; the one over two
-//! texts through files (see `files`). Long circuits whose list the definitions
+//! standard output, nothing on standard error, exit status 0; these and those over
+//! two texts through files (see `files`). Long circuits whose list the definitions
 //! give (see `built`), and what order 4 says of negated controls (see `negated`),
 //! are asserted without the peer; what order 5 says of spares (see `spares`), and order
 //! 6 of rules 7 and 8 (see `wide`), beside it.
@@ -20,11 +20,14 @@ use std::io::{Read, Write};
 use std::path::Path;
 use std::process::{Child, Command, ExitStatus, Stdio};
 
-const PROGRAMS: [(Program, &str); 3] = [
+pub const PROGRAMS: [(Program, &str); 4] = [
     (Program::Map, "map"),
     (Program::Reduce, "reduce"),
+    (Program::Invert, "invert"),
     (Program::Quote, "quote"),
 ];
+/// Those over a circuit text.
+const CIRCUIT_PROGRAMS: [Program; 2] = [Program::Reduce, Program::Invert];
 
 /// How often, at least, map and quote together are expected to give each of the
 /// numbers 0 to 9 to a text with a minus sign in it.
@@ -69,7 +72,7 @@ pub fn run(directory: &Path, scratch: &Path) -> Report {
                     .fold(0, |n, b| 10 * n + usize::from(b - b'0')),
             };
             numbers[number] += 1;
-            if program != Program::Reduce && text.contains(&b'-') {
+            if !CIRCUIT_PROGRAMS.contains(&program) && text.contains(&b'-') {
                 signed[number] += 1;
             }
             let passed = got.as_ref() == Ok(&expected);
@@ -90,7 +93,7 @@ pub fn run(directory: &Path, scratch: &Path) -> Report {
             report.passed + report.failed - before
         );
     }
-    known_lists(&mut report, &mut random, &directory.join("reduce"));
+    known_lists(&mut report, &mut random, directory);
     println!(
         "programs: numbers 0 to 9 expected so often: {:?}",
         &numbers[..10]
@@ -114,35 +117,39 @@ pub fn run(directory: &Path, scratch: &Path) -> Report {
     negated::run(&mut report, &mut random, NEGATED, &mut ask);
     spares::run(&mut report, &mut random, SPARES, &mut ask);
     wide_gates(&mut report, &mut random, &mut ask);
-    files::run(&mut report, &directory.join("compare"), scratch);
+    files::run(&mut report, directory, scratch);
     report
 }
 
-/// Reduce on long circuits whose list the definitions give.
-fn known_lists(report: &mut Report, random: &mut Random, reduce: &Path) {
+/// Reduce on long circuits whose list the definitions give, and invert on their
+/// inverses.
+fn known_lists(report: &mut Report, random: &mut Random, directory: &Path) {
     let before = report.passed + report.failed;
     for lines in built::LINES {
         for (name, kind) in built::KINDS {
             for drawn in built::drawn_twice(random, kind, lines, true) {
-                let text = circuit::text(lines, &drawn.gates);
+                let inverse = circuit::undone(&drawn.gates);
                 let expected = circuit::text(lines, &drawn.list);
-                let got = Written::by(reduce, &[], &text, text.len())
-                    .and_then(|written| written.answer());
-                report.case(got.as_ref() == Ok(&expected), || {
-                    let got = got
-                        .as_ref()
-                        .map_or_else(String::clone, |answer| shown(answer));
-                    format!(
-                        "reduce, {name}: got {got}, expected {}; text {}",
-                        shown(&expected),
-                        shown(&text)
-                    )
-                });
+                for (program, gates) in [("reduce", &drawn.gates), ("invert", &inverse)] {
+                    let text = circuit::text(lines, gates);
+                    let got = Written::by(&directory.join(program), &[], &text, text.len())
+                        .and_then(|written| written.answer());
+                    report.case(got.as_ref() == Ok(&expected), || {
+                        let got = got
+                            .as_ref()
+                            .map_or_else(String::clone, |answer| shown(answer));
+                        format!(
+                            "{program}, {name}: got {got}, expected {}; text {}",
+                            shown(&expected),
+                            shown(&text)
+                        )
+                    });
+                }
             }
         }
     }
     println!(
-        "programs: reduce, long circuits of known lists: {} cases",
+        "programs: reduce and invert, long circuits of known lists: {} cases",
         report.passed + report.failed - before
     );
 }
@@ -196,7 +203,7 @@ fn wide_gates(report: &mut Report, random: &mut Random, ask: &mut Ask) {
 }
 
 fn all_texts(random: &mut Random, program: Program) -> Vec<Vec<u8>> {
-    let cascade = program != Program::Reduce;
+    let cascade = !CIRCUIT_PROGRAMS.contains(&program);
     let mut texts: Vec<Vec<u8>> = texts::SMALL
         .iter()
         .map(|text| text.as_bytes().to_vec())

@@ -1,13 +1,15 @@
-//! Reduce on all small circuits, map on small cascades with negated controls, and
-//! compare on all pairs of smaller circuits, against their whole link classes; and
-//! small circuits with a minus sign, which are malformed.
+//! Reduce and invert on all small circuits, map on small cascades with negated
+//! controls, and compare and join on all pairs of smaller circuits, against their whole
+//! link classes; and small circuits with a minus sign, which are malformed.
 //!
 //! For some lines and some length L, all circuits of at most L gates are nodes,
 //! and each pass and each merge between two of them joins two classes (a step
 //! backwards joins the same two). In each class the expected list is the first
 //! in dictionary order of the shortest; the library has to give it for every
-//! circuit of at most C gates, C < L. Two circuits are equal exactly if they are
-//! of one class, and else in the order of the lists of their classes.
+//! circuit of at most C gates, C < L, and to invert for its inverse, which has as many
+//! gates. Two circuits are equal exactly if they are of one class, and else in the
+//! order of the lists of their classes. Those of a pair have together at most L gates,
+//! so their join is a node too.
 //!
 //! Chains may lead over circuits longer than L. That these join no further
 //! classes is the confluence of passes and forward merges: a chain over a
@@ -23,7 +25,7 @@
 use crate::circuit::{self, merge, pass, records, text, Gate};
 use crate::expansion;
 use crate::report::{shown, Report};
-use crate::subject::{call, compare, holds, Area};
+use crate::subject::{call, compare, holds, join, Area};
 use crate::texts::{cascade_text, Control, Mct};
 use peer::Job;
 use std::cmp::Ordering;
@@ -31,8 +33,8 @@ use std::collections::HashSet;
 
 /// Lines, C and L.
 const SPACES: [(u8, usize, usize); 4] = [(1, 12, 14), (2, 6, 7), (3, 4, 5), (4, 3, 4)];
-/// The same for the pairs.
-const PAIRS: [(u8, usize, usize); 3] = [(1, 5, 7), (2, 3, 5), (3, 2, 4)];
+/// The same for the pairs, L being twice C or more.
+const PAIRS: [(u8, usize, usize); 4] = [(1, 6, 12), (2, 3, 6), (3, 2, 4), (4, 1, 3)];
 /// Lines, gates of a cascade and gates of its expansion, each at most so many.
 const CASCADES: [(u8, usize, usize); 4] = [(1, 3, 3), (2, 4, 12), (3, 2, 14), (4, 1, 9)];
 /// Cascades with a negated control, and circuits with a minus sign.
@@ -58,36 +60,15 @@ fn all_circuits(report: &mut Report) {
         report.case(same, || {
             format!("{lines} lines: longer circuits join further classes")
         });
-        let mut answer = Area::filled(200, b'?');
         let mut classes = 0;
         for node in 0..circuits {
             let gates = space.gates(node);
-            let expected = space.gates(wide.first(node));
             classes += usize::from(wide.first(node) == node);
-            let circuit_text = text(lines, &gates);
-            let expected_text = text(lines, &expected);
-            let mut list = Area::filled(4_096, 0xffff);
-            let outcome = call(
-                Job::Reduce,
-                &Area::holding(&circuit_text, 0),
-                &mut list,
-                &mut answer,
-            );
-            let passed = outcome.number == 0
-                && outcome.line == 0
-                && outcome.gates as usize == expected.len()
-                && outcome.bytes as usize == expected_text.len()
-                && answer.inside()[..expected_text.len()] == expected_text
-                && holds(&list, &records(&expected));
-            report.case(passed, || {
-                let written = (outcome.bytes as usize).min(200);
-                format!(
-                    "{} gives {outcome:?} {}, expected {}",
-                    shown(&circuit_text),
-                    shown(&answer.inside()[..written]),
-                    shown(&expected_text)
-                )
-            });
+            let expected = space.gates(wide.first(node));
+            one_text(report, Job::Reduce, lines, &gates, &expected);
+            let inverse = space.node(&circuit::undone(&gates));
+            let expected = space.gates(wide.first(inverse));
+            one_text(report, Job::Invert, lines, &gates, &expected);
         }
         println!(
             "small: {lines} lines, up to {compared} gates: {} cases in {classes} classes (chains over up to {bound} gates)",
@@ -96,8 +77,44 @@ fn all_circuits(report: &mut Report) {
     }
 }
 
+/// A job on a circuit, with the list that is expected.
+fn one_text(report: &mut Report, job: Job, lines: u8, gates: &[Gate], expected: &[Gate]) {
+    let circuit_text = text(lines, gates);
+    let expected_text = text(lines, expected);
+    let mut list = Area::filled(4_096, 0xffff);
+    let mut answer = Area::filled(200, b'?');
+    let outcome = call(
+        job,
+        &Area::holding(&circuit_text, 0),
+        &mut list,
+        &mut answer,
+    );
+    let passed = outcome.number == 0
+        && outcome.line == 0
+        && outcome.gates as usize == expected.len()
+        && outcome.bytes as usize == expected_text.len()
+        && written(&answer, &expected_text)
+        && holds(&list, &records(expected));
+    report.case(passed, || {
+        let written = (outcome.bytes as usize).min(200);
+        format!(
+            "{job:?}: {} gives {outcome:?} {}, expected {}",
+            shown(&circuit_text),
+            shown(&answer.inside()[..written]),
+            shown(&expected_text)
+        )
+    });
+}
+
+/// Whether an answer area of junk holds this text first and is else unchanged.
+fn written(answer: &Area<u8>, expected: &[u8]) -> bool {
+    let (front, rest) = answer.inside().split_at(expected.len());
+    front == expected && rest.iter().all(|&byte| byte == b'?')
+}
+
 /// A circuit and the list of its class.
 struct Listed {
+    gates: Vec<Gate>,
     text: Area<u8>,
     list: Vec<u16>,
 }
@@ -109,6 +126,7 @@ fn all_pairs(report: &mut Report) {
         let classes = space.classes(bound);
         let circuits: Vec<Listed> = (0..space.circuits_up_to(compared))
             .map(|node| Listed {
+                gates: space.gates(node),
                 text: Area::holding(&text(lines, &space.gates(node)), 0),
                 list: records(&space.gates(classes.first(node))),
             })
@@ -116,6 +134,9 @@ fn all_pairs(report: &mut Report) {
         for first in &circuits {
             for second in &circuits {
                 pair(report, first, second);
+                let whole = space.node(&[&first.gates[..], &second.gates].concat());
+                let expected = space.gates(classes.first(whole));
+                joined(report, lines, first, second, &expected);
             }
         }
         println!(
@@ -142,6 +163,25 @@ fn pair(report: &mut Report, first: &Listed, second: &Listed) {
             "{} and {} give {outcome:?}, expected {expected}, or another list than expected",
             shown(first.text.inside()),
             shown(second.text.inside())
+        )
+    });
+}
+
+fn joined(report: &mut Report, lines: u8, first: &Listed, second: &Listed, expected: &[Gate]) {
+    let expected_text = text(lines, expected);
+    let mut list = Area::filled(4_096, 0xffff);
+    let mut answer = Area::filled(200, b'?');
+    let outcome = join([&first.text, &second.text], &mut list, &mut answer);
+    let passed = (outcome.number, outcome.line, outcome.text) == (0, 0, 0)
+        && outcome.count as usize == expected_text.len()
+        && written(&answer, &expected_text)
+        && holds(&list, &records(expected));
+    report.case(passed, || {
+        format!(
+            "join: {} and {} give {outcome:?}, expected {}, or another list or text",
+            shown(first.text.inside()),
+            shown(second.text.inside()),
+            shown(&expected_text)
         )
     });
 }
@@ -260,7 +300,7 @@ fn forward(start: &[Gate]) -> HashSet<Vec<Gate>> {
 }
 
 /// Small circuits with a minus sign before any of their numbers: malformed at that
-/// line, for reduce, and for compare as either text.
+/// line, for reduce and invert, and for compare and join as either text.
 fn signed_circuits(report: &mut Report) {
     let mut signed = 0;
     for (lines, most) in [(1, 3), (2, 2), (3, 1)] {
@@ -287,21 +327,31 @@ fn signed_circuits(report: &mut Report) {
 /// One text that is malformed at a line, beside one that is good.
 fn malformed(report: &mut Report, good: &[u8], text: &[u8], line: u64) {
     let [good, area] = [good, text].map(|text| Area::holding(text, 0));
-    let mut list = Area::filled(4_096, 0xffff);
     let mut answer = Area::filled(200, b'?');
-    let reduced = call(Job::Reduce, &area, &mut list, &mut answer);
-    let mut lists = [0, 1].map(|_| Area::filled(4_096, 0xffff));
-    let first = compare([&area, &good], lists.each_mut());
-    let second = compare([&good, &area], lists.each_mut());
-    let passed = (reduced.number, reduced.line) == (3, line)
-        && (reduced.gates, reduced.bytes) == (0, 0)
-        && holds(&list, &[])
-        && answer.inside().iter().all(|&byte| byte == b'?')
-        && (first.number, first.line, first.text, first.count) == (3, line, 1, 0)
-        && (second.number, second.line, second.text, second.count) == (3, line, 2, 0);
+    let alone = [Job::Reduce, Job::Invert].map(|job| {
+        let mut list = Area::filled(4_096, 0xffff);
+        let outcome = call(job, &area, &mut list, &mut answer);
+        let four = (outcome.number, outcome.line, outcome.gates, outcome.bytes);
+        (four, holds(&list, &[]))
+    });
+    let pairs = [[&area, &good], [&good, &area]].map(|texts| {
+        let mut lists = [0, 1].map(|_| Area::filled(4_096, 0xffff));
+        let mut list = Area::filled(4_096, 0xffff);
+        let outcomes = [
+            compare(texts, lists.each_mut()),
+            join(texts, &mut list, &mut answer),
+        ];
+        let fours = outcomes.map(|o| (o.number, o.line, o.text, o.count));
+        let [first, second] = &lists;
+        (fours, [first, second, &list].map(|list| holds(list, &[])))
+    });
+    let in_text = |which| ([(3, line, which, 0); 2], [true; 3]);
+    let passed = alone == [((3, line, 0, 0), true); 2]
+        && pairs == [in_text(1), in_text(2)]
+        && answer.inside().iter().all(|&byte| byte == b'?');
     report.case(passed, || {
         format!(
-            "{} gives {reduced:?}, and to compare {first:?} and {second:?}; expected 3 at line {line}",
+            "{} gives {alone:?}, to compare and join {pairs:?}; expected 3 at line {line}",
             shown(text)
         )
     });
@@ -355,6 +405,17 @@ impl Space {
             .iter()
             .map(|&place| self.alphabet[place])
             .collect()
+    }
+
+    /// The number of a circuit.
+    fn node(&self, gates: &[Gate]) -> usize {
+        let place = |gate: &Gate| {
+            let found = self
+                .alphabet
+                .binary_search_by_key(&gate.record(), |g| g.record());
+            found.expect("a gate on these lines")
+        };
+        self.number(gates.iter().map(place))
     }
 
     fn number(&self, places: impl ExactSizeIterator<Item = usize>) -> usize {

@@ -3,8 +3,10 @@
 #[path = "../../../examples/rust/src/declared.rs"]
 mod declared;
 
-use declared::{yilgorza_compare, yilgorza_gate, yilgorza_map, yilgorza_reduce};
-use peer::{comparison, Job, Outcome};
+use declared::{
+    yilgorza_compare, yilgorza_gate, yilgorza_invert, yilgorza_join, yilgorza_map, yilgorza_reduce,
+};
+use peer::{several, Job, Outcome};
 
 /// How many records or bytes before and after each area are watched.
 const GUARD: usize = 32;
@@ -57,6 +59,7 @@ pub fn call(job: Job, text: &Area<u8>, list: &mut Area<u16>, answer: &mut Area<u
     let function = match job {
         Job::Map => yilgorza_map,
         Job::Reduce => yilgorza_reduce,
+        Job::Invert => yilgorza_invert,
     };
     // One more word before and after, to see writes beside the four.
     let mut outcome = [u64::MAX; 6];
@@ -88,9 +91,53 @@ pub fn call(job: Job, text: &Area<u8>, list: &mut Area<u16>, answer: &mut Area<u
     }
 }
 
-/// Calls the C function over two texts, each with its list.
-pub fn compare(texts: [&Area<u8>; 2], lists: [&mut Area<u16>; 2]) -> comparison::Outcome {
-    // One more word before and after, to see writes beside the four.
+/// What a call of a job over several texts left in its outcome, of which one more
+/// word before and after shows writes beside the four.
+fn several_outcome(outcome: [u64; 6]) -> several::Outcome {
+    let [before, number, line, text, count, after] = outcome;
+    assert!(
+        before == u64::MAX && after == u64::MAX,
+        "a word beside the outcome was written"
+    );
+    several::Outcome {
+        number,
+        line,
+        text,
+        count,
+    }
+}
+
+/// Calls the C function that joins two texts, with one list and one answer area. The
+/// two texts may be one area.
+pub fn join(
+    texts: [&Area<u8>; 2],
+    list: &mut Area<u16>,
+    answer: &mut Area<u8>,
+) -> several::Outcome {
+    let mut outcome = [u64::MAX; 6];
+    let [first, second] = texts.map(Area::inside);
+    let list = list.inside_mut();
+    let answer = answer.inside_mut();
+    // The areas are live, of the lengths given, and those written don't overlap
+    // any other.
+    unsafe {
+        yilgorza_join(
+            first.as_ptr(),
+            first.len(),
+            list.as_mut_ptr(),
+            list.len(),
+            second.as_ptr(),
+            second.len(),
+            answer.as_mut_ptr(),
+            answer.len(),
+            outcome.as_mut_ptr().add(1),
+        );
+    }
+    several_outcome(outcome)
+}
+
+/// Calls the C function that compares two texts, each with its list.
+pub fn compare(texts: [&Area<u8>; 2], lists: [&mut Area<u16>; 2]) -> several::Outcome {
     let mut outcome = [u64::MAX; 6];
     let [first, second] = texts.map(Area::inside);
     let [first_list, second_list] = lists.map(Area::inside_mut);
@@ -109,17 +156,7 @@ pub fn compare(texts: [&Area<u8>; 2], lists: [&mut Area<u16>; 2]) -> comparison:
             outcome.as_mut_ptr().add(1),
         );
     }
-    let [before, number, line, text, count, after] = outcome;
-    assert!(
-        before == u64::MAX && after == u64::MAX,
-        "a word beside the outcome was written"
-    );
-    comparison::Outcome {
-        number,
-        line,
-        text,
-        count,
-    }
+    several_outcome(outcome)
 }
 
 /// Kind, control and target of a record.

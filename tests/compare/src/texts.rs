@@ -283,11 +283,16 @@ pub fn circuit(random: &mut Random, most: usize) -> Vec<u8> {
 /// A circuit with exactly so many gates.
 pub fn circuit_of(random: &mut Random, count: usize) -> Vec<u8> {
     let lines = random.between(1, 32) as u8;
+    circuit::text(lines, &gates_of(random, lines, count))
+}
+
+/// Exactly so many gates of a valid circuit.
+pub fn gates_of(random: &mut Random, lines: u8, count: usize) -> Vec<Gate> {
     let mut gates = gates(random, lines, count);
     while gates.len() < count {
         gates.push(Gate::random(random, lines));
     }
-    circuit::text(lines, &gates)
+    gates
 }
 
 /// A text with one to three random changes.

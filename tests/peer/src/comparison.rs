@@ -1,24 +1,12 @@
-//! The job over two circuit texts, each with its gate list, and its program.
+//! The job that compares two circuit texts, each with its gate list, and what its
+//! program writes.
 
-use crate::{fill, judged, whole_text, Circuit, Kind, Refusal, SHORTEST_LIST};
+use crate::several::{of_text, Outcome, Refused};
+use crate::{fill, judged, Circuit, Kind, SHORTEST_LIST};
 use std::cmp::Ordering;
-use std::ffi::OsString;
-use std::fs::File;
 
-/// The longest name of a file that the program takes, in bytes.
-const LONGEST_NAME: usize = 4_095;
-
-/// What the job returns: the number, the line, the text whose rule or line
-/// refuses (0 on success), and the count 0, 1 or 2 for less, equal, greater.
-#[derive(Clone, Copy, Debug, PartialEq, Eq)]
-pub struct Outcome {
-    pub number: u64,
-    pub line: u64,
-    pub text: u64,
-    pub count: u64,
-}
-
-/// Compare two circuits by number of lines, then by their reduced lists.
+/// Compare two circuits by number of lines, then by their reduced lists. The count
+/// is 0, 1 or 2 for less, equal, greater.
 pub fn compare(
     first: &[u8],
     first_list: &mut [u16],
@@ -26,89 +14,50 @@ pub fn compare(
     second_list: &mut [u16],
 ) -> Outcome {
     match both(first, first_list.len(), second, second_list.len()) {
-        Err((text, refusal)) => {
-            if refusal.clears() {
+        Err(refused) => {
+            if refused.refusal.clears() {
                 fill(first_list, &[]);
                 fill(second_list, &[]);
             }
-            Outcome {
-                number: refusal.number,
-                line: refusal.line,
-                text,
-                count: 0,
-            }
+            refused.outcome()
         }
         Ok(circuits) => {
             let [first, second] = circuits.map(Circuit::reduced);
             fill(first_list, &first.gates);
             fill(second_list, &second.gates);
-            Outcome {
-                number: 0,
-                line: 0,
-                text: 0,
-                count: match first.cmp(&second) {
-                    Ordering::Less => 0,
-                    Ordering::Equal => 1,
-                    Ordering::Greater => 2,
-                },
-            }
+            Outcome::success(match first.cmp(&second) {
+                Ordering::Less => 0,
+                Ordering::Equal => 1,
+                Ordering::Greater => 2,
+            })
         }
     }
 }
 
-/// Both circuits, or the first refusal with the number of its text.
+/// Both circuits, or the first refusal.
 fn both(
     first: &[u8],
     first_list_len: usize,
     second: &[u8],
     second_list_len: usize,
-) -> Result<[Circuit; 2], (u64, Refusal)> {
+) -> Result<[Circuit; 2], Refused> {
     Ok([
-        judged(Kind::Circuit, first, first_list_len).map_err(|refusal| (1, refusal))?,
-        judged(Kind::Circuit, second, second_list_len).map_err(|refusal| (2, refusal))?,
+        judged(Kind::Circuit, first, Some(first_list_len)).map_err(of_text(1))?,
+        judged(Kind::Circuit, second, Some(second_list_len)).map_err(of_text(2))?,
     ])
-}
-
-/// What the program writes for its arguments: the answer to standard output, or
-/// one line to standard error.
-pub fn program_answer(names: &[OsString]) -> Result<Vec<u8>, String> {
-    match names {
-        [first, second] if is_name(first) && is_name(second) => {
-            Ok(answer(&text_of(first)?, &text_of(second)?))
-        }
-        _ => Err("usage: peer-compare FIRST SECOND".to_string()),
-    }
-}
-
-/// A name that begins with `-` is taken for an option, and there is none.
-fn is_name(name: &OsString) -> bool {
-    let bytes = name.as_encoded_bytes();
-    (1..=LONGEST_NAME).contains(&bytes.len()) && bytes[0] != b'-'
-}
-
-/// The text in a file. The name is quoted, so that the complaint is one line.
-fn text_of(name: &OsString) -> Result<Vec<u8>, String> {
-    File::open(name)
-        .and_then(whole_text)
-        .map_err(|error| format!("{name:?}: {error}"))
 }
 
 /// What the program writes for two texts: the answer, or the form
 /// `(turned-away r l t)`.
-fn answer(first: &[u8], second: &[u8]) -> Vec<u8> {
+pub fn answer(first: &[u8], second: &[u8]) -> Vec<u8> {
     let mut lists = [[0u16; SHORTEST_LIST]; 2];
     let [first_list, second_list] = &mut lists;
-    let Outcome {
-        number,
-        line,
-        text,
-        count,
-    } = compare(first, first_list, second, second_list);
-    match (number, count) {
+    let outcome = compare(first, first_list, second, second_list);
+    match (outcome.number, outcome.count) {
         (0, 0) => b"(less)\n".to_vec(),
         (0, 1) => b"(equal)\n".to_vec(),
         (0, _) => b"(greater)\n".to_vec(),
-        _ => format!("(turned-away {number} {line} {text})\n").into_bytes(),
+        _ => outcome.turned_away(),
     }
 }
 
@@ -343,36 +292,5 @@ mod tests {
         assert_eq!(written(&crossed, ""), b"(turned-away 5 3 1)\n");
         let overlong = "x".repeat(60_001);
         assert_eq!(written(none, &overlong), b"(turned-away 1 0 2)\n");
-    }
-
-    #[test]
-    fn arguments_that_are_no_two_names() {
-        let refused = |names: &[&str]| {
-            let names: Vec<OsString> = names.iter().map(OsString::from).collect();
-            let complaint = program_answer(&names).unwrap_err();
-            assert!(!complaint.is_empty() && !complaint.contains('\n'));
-            complaint
-        };
-        let long = "x".repeat(LONGEST_NAME + 1);
-        let wrong: [&[&str]; 7] = [
-            &[],
-            &["/dev/null"],
-            &["/dev/null", "/dev/null", "/dev/null"],
-            &["/dev/null", ""],
-            &["-", "/dev/null"],
-            &["/dev/null", "-x"],
-            &[&long, "/dev/null"],
-        ];
-        for names in wrong {
-            assert_eq!(refused(names), "usage: peer-compare FIRST SECOND");
-        }
-        for names in [["/dev/null", "/"], ["/none\nsuch", "/dev/null"]] {
-            assert!(refused(&names).starts_with('"'));
-        }
-        let empty = ["/dev/null", "/dev/null"].map(OsString::from);
-        assert_eq!(
-            program_answer(&empty),
-            Ok(b"(turned-away 3 1 1)\n".to_vec())
-        );
     }
 }

@@ -43,7 +43,7 @@ fn without_line(number: u64) -> Outcome {
 }
 
 /// The answer text and the gates of an accepted text.
-fn answered(job: Job, text: &str) -> (String, u64) {
+pub fn answered(job: Job, text: &str) -> (String, u64) {
     let (outcome, answer, list) = run(job, text, 50_000);
     let answer = String::from_utf8(answer).unwrap();
     let gates = answer.lines().count() as u64 - 1;

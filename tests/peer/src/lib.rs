@@ -1,21 +1,24 @@
-//! A second implementation of the jobs (map, reduce, compare), written from the
-//! scope document and the orders alone, in plain Rust. The comparisons take it as
-//! the expected answer, the benchmark as the peer in speed.
+//! A second implementation of the jobs (map, reduce, invert, join, compare), written
+//! from the scope document and the orders alone, in plain Rust. The comparisons take
+//! it as the expected answer, the benchmark as the peer in speed.
 //!
 //! Modules: `gate` (gates, their numbers and when two pass), `reader` (the two
 //! texts and rules 3 to 9), `expansion` (from mct gates to NCV gates),
-//! `reduction` (merge to a fixed point, then order by selection), `comparison`
-//! (the job over two texts, and its program). This file holds the jobs over one
-//! text, with the lent memory and rules 1, 2 and 10, and their programs.
+//! `reduction` (merge to a fixed point, then order by selection), `joining` and
+//! `comparison` (the jobs over two texts), `several` (the outcome of such a job),
+//! `files` (names of files, and the programs). This file holds the jobs over one
+//! text, with the lent memory and rules 1, 2 and 10.
 
 pub mod comparison;
 pub mod expansion;
+pub mod files;
 pub mod gate;
+pub mod joining;
 pub mod reader;
 pub mod reduction;
+pub mod several;
 
 use gate::Gate;
-use std::io::{self, Read, Write};
 
 /// The longest text, in bytes (rule 1).
 pub const LONGEST_TEXT: usize = 60_000;
@@ -70,6 +73,14 @@ impl Circuit {
             gates: reduction::reduce(&self.gates),
         }
     }
+
+    /// The gates reversed, with v and vp exchanged.
+    fn inverse(self) -> Circuit {
+        Circuit {
+            lines: self.lines,
+            gates: self.gates.iter().rev().map(|gate| gate.undone()).collect(),
+        }
+    }
 }
 
 #[derive(Clone, Copy, Debug, PartialEq, Eq)]
@@ -83,6 +94,7 @@ pub enum Kind {
 pub enum Job {
     Map,
     Reduce,
+    Invert,
 }
 
 impl Job {
@@ -90,6 +102,7 @@ impl Job {
         match self {
             Job::Map => map(text, list, answer),
             Job::Reduce => reduce(text, list, answer),
+            Job::Invert => invert(text, list, answer),
         }
     }
 }
@@ -97,17 +110,31 @@ impl Job {
 /// Map a cascade text to a circuit text. An answer area of length 0 asks for the
 /// gates and the list alone, and no text is written.
 pub fn map(text: &[u8], list: &mut [u16], answer: &mut [u8]) -> Outcome {
+    let circuit = judged(Kind::Cascade, text, Some(list.len()));
     let area = (!answer.is_empty()).then_some(answer);
-    over_one_text(Kind::Cascade, text, list, area)
+    reduced_into(circuit, list, area)
 }
 
 /// Reduce a circuit text.
 pub fn reduce(text: &[u8], list: &mut [u16], answer: &mut [u8]) -> Outcome {
-    over_one_text(Kind::Circuit, text, list, Some(answer))
+    let circuit = judged(Kind::Circuit, text, Some(list.len()));
+    reduced_into(circuit, list, Some(answer))
 }
 
-fn over_one_text(kind: Kind, text: &[u8], list: &mut [u16], area: Option<&mut [u8]>) -> Outcome {
-    match answered(kind, text, list.len(), area) {
+/// Reverse a circuit, exchange v and vp, then reduce it.
+pub fn invert(text: &[u8], list: &mut [u16], answer: &mut [u8]) -> Outcome {
+    let circuit = judged(Kind::Circuit, text, Some(list.len()));
+    reduced_into(circuit.map(Circuit::inverse), list, Some(answer))
+}
+
+/// The reduced list of a circuit, if there was no refusal, into the list and, if
+/// there is one, the area.
+fn reduced_into(
+    circuit: Result<Circuit, Refusal>,
+    list: &mut [u16],
+    area: Option<&mut [u8]>,
+) -> Outcome {
+    match circuit.and_then(|circuit| answered(circuit, area)) {
         Err(refusal) => {
             if refusal.clears() {
                 fill(list, &[]);
@@ -131,15 +158,10 @@ fn over_one_text(kind: Kind, text: &[u8], list: &mut [u16], area: Option<&mut [u
     }
 }
 
-/// Rules 1 to 10: the reduced list, and how many bytes of the area, if there is
-/// one, its text takes.
-fn answered(
-    kind: Kind,
-    text: &[u8],
-    list_len: usize,
-    area: Option<&mut [u8]>,
-) -> Result<(Vec<Gate>, usize), Refusal> {
-    let circuit = judged(kind, text, list_len)?.reduced();
+/// The reduced list, and how many bytes of the area, if there is one, its text
+/// takes.
+fn answered(circuit: Circuit, area: Option<&mut [u8]>) -> Result<(Vec<Gate>, usize), Refusal> {
+    let circuit = circuit.reduced();
     let bytes = match area {
         None => 0,
         Some(area) => write_text(&circuit, area)?,
@@ -158,13 +180,13 @@ fn write_text(circuit: &Circuit, area: &mut [u8]) -> Result<usize, Refusal> {
     Ok(text.len())
 }
 
-/// Rules 1 to 9: the circuit of a text that is judged with a list of so many
-/// records.
-fn judged(kind: Kind, text: &[u8], list_len: usize) -> Result<Circuit, Refusal> {
+/// Rules 1 to 9: the circuit of a text, and of the list that is judged with it, if
+/// there is one, the number of its records.
+fn judged(kind: Kind, text: &[u8], list_len: Option<usize>) -> Result<Circuit, Refusal> {
     if text.len() > LONGEST_TEXT {
         return Err(Refusal { number: 1, line: 0 });
     }
-    if list_len < SHORTEST_LIST {
+    if list_len.is_some_and(|records| records < SHORTEST_LIST) {
         return Err(Refusal { number: 2, line: 0 });
     }
     reader::read(kind, text)
@@ -216,6 +238,7 @@ fn put_number(text: &mut Vec<u8>, number: u8) {
 pub enum Program {
     Map,
     Reduce,
+    Invert,
     Quote,
 }
 
@@ -225,6 +248,7 @@ pub fn program_answer(program: Program, text: &[u8]) -> Vec<u8> {
     let (job, answer_len) = match program {
         Program::Map => (Job::Map, LONGEST_ANSWER),
         Program::Reduce => (Job::Reduce, LONGEST_ANSWER),
+        Program::Invert => (Job::Invert, LONGEST_ANSWER),
         Program::Quote => (Job::Map, 0),
     };
     let mut list = [0u16; SHORTEST_LIST];
@@ -242,26 +266,10 @@ pub fn program_answer(program: Program, text: &[u8]) -> Vec<u8> {
     }
 }
 
-/// The whole of a program over one text: standard input to standard output.
-pub fn run_program(program: Program) -> io::Result<()> {
-    let text = whole_text(io::stdin().lock())?;
-    io::stdout()
-        .lock()
-        .write_all(&program_answer(program, &text))
-}
-
-/// The text that a program reads: one byte past the longest is enough to refuse
-/// it.
-fn whole_text(source: impl Read) -> io::Result<Vec<u8>> {
-    let mut text = Vec::with_capacity(LONGEST_TEXT + 1);
-    source
-        .take(LONGEST_TEXT as u64 + 1)
-        .read_to_end(&mut text)?;
-    Ok(text)
-}
-
 #[cfg(test)]
 mod examples;
+#[cfg(test)]
+mod inverse;
 #[cfg(test)]
 mod negated;
 #[cfg(test)]

@@ -2,10 +2,10 @@
 use native.Mathlib.Omega.{arith}
 use native.Mathlib.Nat.{le-refl}
 use borrow.Author.Needs.{needs}
 use Rattle.gates.proofs.Codes.{below}
-use Rattle.expansion.proofs.Inverting.{inverted-not, inverted-powered}
-use Rattle.expansion.proofs.inverted.Statement.{statement}
-use Rattle.expansion.proofs.inverted.Tie as tie
+use Rattle.gates.proofs.InvertedCodes.{inverted-not, inverted-powered}
+use Rattle.gates.proofs.inverted.Statement.{statement}
+use Rattle.gates.proofs.inverted.Tie as tie
 
 returns : tie.Need-returns
 returns c = inverted-not (c .before .args .k) (c .before .pre) (c .if1 .taken)

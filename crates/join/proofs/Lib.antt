@@ -1,0 +1,5 @@
+-- The laws and theorems of this crate, in reading order.
+pub mod Answers
+pub mod Prints
+pub mod Numbers
+pub mod Examples
