@@ -6,6 +6,7 @@ use mathlib.Core.List.{List, [], _∷_}
 use native.Mathlib.Omega.{arith}
 use lib.ListN.{length}
 use Rattle.gates.specs.declared.Gate.{Gate}
+use Rattle.gates.specs.Circuit.{AllValid}
 use Rattle.gates.specs.Inverse.{inverse}
 use Rattle.gates.proofs.Inverses.{all-valid-inverse, length-inverse}
 use Rattle.text.specs.declared.Head.{Head}
@@ -16,7 +17,7 @@ use Rattle.text.specs.Judging.{Judged, turned-away}
 use Rattle.text.proofs.Accepted.{judge-accepted, text-valid}
 use Rattle.text.proofs.Longest.{text-length}
 use Rattle.text.proofs.Written.{judge-written}
-use Rattle.habits.specs.Demands.{Accepts}
+use Rattle.habits.specs.Demands.{Sized, Accepts}
 use Rattle.jobs.specs.Jobs.{reducing, takes, Entry, Exit, refusal, judged, written, answered, Settled, Says}
 use Rattle.jobs.proofs.Habits.{accepts-judged}
 use Rattle.inversion.specs.Invert.{inverse-judged, Invert}
@@ -25,16 +26,18 @@ use Rattle.inversion.specs.Invert.{inverse-judged, Invert}
 abbrev pub inverse-entry : Entry → ℕ → List Gate → Entry
 inverse-entry e n c = record { text = circuit-text n (inverse c); list = e .list; area = e .area }
 
+-- the text of a circuit shows it, beside any lists that rule 2 lets pass
+pub written-accepts : {s rooms : List ℕ} {n : ℕ} (c : List Gate) → AllValid n c → 1 ≤ n → n ≤ 32 → length c ≤ 4096 → Sized s rooms → Accepts Circuit (circuit-text n c) rooms (record { lines = n }) c
+written-accepts {n = n} c f a b few z = record {
+  sized = record { small = omega (arith, text-length n c); room = z .room };
+  judged = judge-written n c f a b few;
+}
+
 -- the text of the inverse shows the inverse
 pub inverse-accepts : {s rooms : List ℕ} {h : Head} {c : List Gate} → Accepts Circuit s rooms h c → Accepts Circuit (circuit-text (h .lines) (inverse c)) rooms h (inverse c)
 inverse-accepts {s} {h = h} {c} a =
     let t = judge-accepted Circuit s (a .judged) in
-    let n = h .lines in
-    let few : length (inverse c) ≤ 4096 = omega (arith, length-inverse c, t .short) in
-    record {
-      sized = record { small = omega (arith, text-length n (inverse c)); room = a .sized .room };
-      judged = judge-written n (inverse c) (all-valid-inverse n c (text-valid t)) (t .least) (t .largest) few;
-    }
+    written-accepts (inverse c) (all-valid-inverse (h .lines) c (text-valid t)) (t .least) (t .largest) (omega (arith, length-inverse c, t .short)) (a .sized)
 
 -- what rules 1 to 9 let pass
 pub inverts-as : (e : Entry) (x : Exit) {h : Head} {c : List Gate} → Accepts Circuit (e .text) (length (e .list) ∷ []) h c → Invert e x ↔ Says reducing (inverse-entry e (h .lines) c) x

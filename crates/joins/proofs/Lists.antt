@@ -17,12 +17,12 @@ use Rattle.text.specs.declared.Kind.the-variants as kind
 use Rattle.text.specs.Text.{circuit-text}
 use Rattle.text.specs.Judging.{judge, accepted}
 use Rattle.text.proofs.Accepted.{accepted-circuit, judge-accepted, text-valid}
-use Rattle.text.proofs.Longest.{text-length}
 use Rattle.text.proofs.Written.{judge-written}
 use Rattle.habits.specs.Habits.{Judgement, Circuit, Lent, Exit, refusal, success, Says}
 use Rattle.habits.specs.Demands.{Accepts}
 use Rattle.jobs.specs.Jobs.{as-text, takes}
 use Rattle.jobs.specs.Habits.{Right, Keeps}
+use Rattle.inversion.proofs.Reducing.{written-accepts}
 use Rattle.joins.specs.Join.{Join}
 use Rattle.joins.specs.Demands.{Read, Joins, Ran, Lists, AnsweredAs}
 use Rattle.joins.proofs.Demands.{text-accepted, joins-judged, read-joins, joins-short, joins-success, leaves}
@@ -57,14 +57,9 @@ module _ {n : ℕ} {c d r : List Gate} (a : Ran n c d r) where
 -- the text of the plain join shows the plain join
 joined-accepts : {s : List ℕ} {l : List Gate} {t : List ℕ} {g : Head} {c d : List Gate} → Read s l t g c g d → length c + length d ≤ 4096 → Accepts kind.Circuit (circuit-text (g .lines) (c ++ d)) (length l ∷ []) g (c ++ d)
 joined-accepts {s} {l} {t} {g} {c} {d} b h =
-    let n = g .lines in
     let v = judge-accepted kind.Circuit s (b .first .judged) in
     let w = judge-accepted kind.Circuit t (b .second .judged) in
-    let few : length (c ++ d) ≤ 4096 = omega (arith, length-append c d, h) in
-    record {
-      sized = record { small = omega (arith, text-length n (c ++ d)); room = b .first .sized .room };
-      judged = judge-written n (c ++ d) (all-valid-append n c d (text-valid v) (text-valid w)) (v .least) (v .largest) few;
-    }
+    written-accepts (c ++ d) (all-valid-append (g .lines) c d (text-valid v) (text-valid w)) (v .least) (v .largest) (omega (arith, length-append c d, h)) (b .first .sized)
 
 pub join-reduces : {s : List ℕ} {l : List Gate} {t : List ℕ} {g : Head} {c d : List Gate} → Read s l t g c g d → length c + length d ≤ 4096 → AnsweredAs s l t (g .lines) c d
 unfolding AnsweredAs Join Keeps takes
