@@ -21,7 +21,8 @@ use Rattle.records.specs.Records.{filled-by}
 use Rattle.habits.specs.Habits as habits
 use Rattle.habits.specs.Demands.{One}
 use Rattle.jobs.specs.Jobs.{Job, Exit}
-use Rattle.jobs.specs.Handing.{limit-of, Settles, HandsOne, HandsText, HandsTwo}
+use Rattle.outcomes.specs.Outcomes.{limit-of, Settles}
+use Rattle.jobs.specs.Handing.{HandsOne, HandsText, HandsTwo}
 use Rattle.jobs.proofs.One.{says-one}
 use Rattle.inversion.specs.Invert.{Invert}
 use Rattle.inversion.proofs.One.{invert-one}

@@ -1,10 +1,9 @@
 -- The quote of an mct gate that stands alone goes by how many lines there are, how many controls it has and which of these are negated, the first,
 -- the second and so on; it does not go by which lines they are. With the lowest spare lines it did. Assumes nothing.
 use mathlib.Core.Path.{_≡_, refl, sym, ap, _∙_}
-use mathlib.Core.Logic.{_≢_}
 use mathlib.Core.Bool.{Bool, true, false, not, cond, _||_, false≢true}
 use mathlib.Core.List.{List, [], _∷_, _++_, map, map-append, append-nil}
-use Prim.Native.Nat.{ℕ, zero, suc, _+_, _≤_, _<_}
+use Prim.Native.Nat.{ℕ, zero, suc, _≤_, _<_}
 use native.Mathlib.Omega.{arith}
 use native.Mathlib.Decide.{decLt}
 use lib.Dec.{eqb}
@@ -143,9 +142,8 @@ negated-renamed ρ (c ∷ cs) (d ∷ ds) e f =
     go false = refl
 
 -- the gate as one of n lines
-record On (n : ℕ) (cs : List Control) (t : ℕ) : Type 0 where
-  expandable : Expandable n (control-lines cs) t
-  below : Below n (control-lines cs)
+abbrev On : ℕ → List Control → ℕ → Type 0
+On n cs t = Expandable n (control-lines cs) t × Below n (control-lines cs)
 
 module _ (n : ℕ) (cs ds : List Control) (t u : ℕ) (w : On n cs t) (v : On n ds u) (same : signs cs ≡ signs ds) where
   no-longer : {r s : List Gate} → Reduced n (expansion± n cs t) r → Reduced n (expansion± n ds u) s → length s ≤ length r
@@ -168,19 +166,19 @@ module _ (n : ℕ) (cs ds : List Control) (t u : ℕ) (w : On n cs t) (v : On n 
       ρ = names a b
 
       p : Spared n (mct-spares n k t) k t
-      p = mct-spared n (w .expandable) (w .below)
+      p = mct-spared n (w .0) (w .1)
 
       q : Spared n (mct-spares n l u) l u
-      q = mct-spared n (v .expandable) (v .below)
+      q = mct-spared n (v .0) (v .1)
 
       long : length a ≡ n
-      long = all-lines n (w .expandable) (w .below)
+      long = all-lines n (w .0) (w .1)
 
       long-too : length b ≡ n
-      long-too = all-lines n (v .expandable) (v .below)
+      long-too = all-lines n (v .0) (v .1)
 
       in-b : (i : ℕ) → i < n → place i a < length b
-      in-b i h = omega (arith, place-below i a (each-line n (w .expandable) (w .below) i h), long, long-too)
+      in-b i h = omega (arith, place-below i a (each-line n (w .0) (w .1) i h), long, long-too)
 
       into : (i : ℕ) → i < n → ρ i < n
       into i h = every-at (λ c. c < n) b (place i a) 0 (in-b i h) (q .below)
@@ -188,7 +186,7 @@ module _ (n : ℕ) (cs ds : List Control) (t u : ℕ) (w : On n cs t) (v : On n 
       apart : (i j : ℕ) → i < n → j < n → ρ i ≡ ρ j → i ≡ j
       apart i j h m e =
           let z : place i a ≡ place j a = one-place b (q .apart) (place i a) (place j a) (in-b i h) (in-b j m) e in
-          sym (at-place i a (each-line n (w .expandable) (w .below) i h)) ∙ ap (λ x. getD a x 0) z ∙ at-place j a (each-line n (w .expandable) (w .below) j m)
+          sym (at-place i a (each-line n (w .0) (w .1) i h)) ∙ ap (λ x. getD a x 0) z ∙ at-place j a (each-line n (w .0) (w .1) j m)
 
       all-named : map ρ a ≡ b
       all-named = named a b (p .apart) (long ∙ sym long-too)
@@ -208,8 +206,6 @@ module _ (n : ℕ) (cs ds : List Control) (t u : ℕ) (w : On n cs t) (v : On n 
 pub placement : (n : ℕ) (g h : Controlled) {r s : List Gate} → AllExpandable n (g ∷ []) → AllExpandable n (h ∷ []) → signs (g .controls) ≡ signs (h .controls) → Reduced n (expand-all n (g ∷ [])) r → Reduced n (expand-all n (h ∷ [])) s → length r ≡ length s
 unfolding expand-all AllExpandable _⨾_
 placement n g h {r} {s} w v e x y =
-    let i : On n (g .controls) (g .target) = record { expandable = w .0 .0; below = w .0 .1 } in
-    let j : On n (h .controls) (h .target) = record { expandable = v .0 .0; below = v .0 .1 } in
     let p : Reduced n (expansion± n (g .controls) (g .target)) r = rw append-nil at x in
     let q : Reduced n (expansion± n (h .controls) (h .target)) s = rw append-nil at y in
-    omega (arith, no-longer n (g .controls) (h .controls) (g .target) (h .target) i j e p q, no-longer n (h .controls) (g .controls) (h .target) (g .target) j i (sym e) q p)
+    omega (arith, no-longer n (g .controls) (h .controls) (g .target) (h .target) (w .0) (v .0) e p q, no-longer n (h .controls) (g .controls) (h .target) (g .target) (v .0) (w .0) (sym e) q p)

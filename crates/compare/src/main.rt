@@ -4,7 +4,7 @@ ghost use Rattle.ordering.specs.declared.Comparison.{Comparison};
 ghost use Rattle.ordering.specs.Comparing.{count-of};
 ghost use Rattle.console.specs.Output.{Fronts, Answers};
 ghost use Rattle.compare.specs.Output.{shown, Prints};
-use console::TwoInputs;
+use files::TwoInputs;
 
 // How many records each gate list has for the job: as many as a text may have gates. The program itself needs no list.
 const RECORDS: usize = 4096;
@@ -43,7 +43,7 @@ fn answer(first: &[u8], second: &[u8], out: &mut [u8; ANSWER_BYTES]) -> usize
 fn print(first: &[u8], second: &[u8], bytes: &[u8])
     requires { ⌜ Prints (now first) (now second) (now bytes) ⌝ }
 {
-    console::write_out(bytes);
+    files::write_out(bytes);
 }
 
 // Writes the answer for two texts.
@@ -57,9 +57,9 @@ fn run_on(first: &[u8], second: &[u8]) {
 fn main() {
     let mut first = [0u8; console::TEXT_BYTES + 1];
     let mut second = [0u8; console::TEXT_BYTES + 1];
-    match console::read_two(&mut first, &mut second) {
+    match files::read_two(&mut first, &mut second) {
         TwoInputs::Bytes(m, n) => run_on(&first[..m], &second[..n]),
         TwoInputs::Unreadable => {}
-        TwoInputs::Misused => console::tell(b"usage: compare FIRST SECOND\n"),
+        TwoInputs::Misused => files::tell(b"usage: compare FIRST SECOND\n"),
     }
 }

@@ -1,7 +1,7 @@
 -- The numbers that compare gives are the table's, and what it leaves is what the papers say. Assumes nothing.
-use Prim.Native.Nat.{ℕ, _-_, _≤_}
-use mathlib.Core.Path.{_≡_, refl, sym, ap, _∙_, subst}
-use mathlib.Core.Logic.{_↔_, _⊎_, inl, inr}
+use Prim.Native.Nat.{ℕ, _≤_}
+use mathlib.Core.Path.{_≡_, refl, ap, _∙_}
+use mathlib.Core.Logic.{_⊎_, inl, inr}
 use mathlib.Core.List.{List, [], _∷_}
 use native.Mathlib.Omega.{arith}
 use lib.ListN.{length}
@@ -12,12 +12,12 @@ use Rattle.text.specs.declared.Kind.the-variants as kind
 use Rattle.text.specs.declared.Refusal.{Refusal}
 use Rattle.text.specs.Refusals.{number-of}
 use Rattle.ordering.specs.Comparing.{count-of, compare-lists}
-use Rattle.habits.specs.Habits.{Judgement, fine, away, Circuit, text-judged, Lent, Exit, Answer, filled, all-filled, refusal, success, answered}
+use Rattle.habits.specs.Habits.{fine, away, Circuit, text-judged, Lent, Exit, Answer, filled, all-filled, refusal, success, answered}
 use Rattle.habits.specs.Demands.{Refuses, overlong, short-list, failing-line, Accepts}
 use Rattle.habits.proofs.Refused.{refuses-exactly-if, accepts-exactly-if, refuses-or-accepts}
 use Rattle.habits.proofs.Says.{says-away, says-fine, filled-first, filled-later}
 use Rattle.comparison.specs.Compare.{judged, Compared, Compare}
-use Rattle.comparison.specs.Demands.{Due, by-first, by-second, no-refusal, RefusalLeaves, Holds, SuccessLeaves, Demand}
+use Rattle.comparison.specs.Demands.{Due, by-first, by-second, no-refusal, Holds, SuccessLeaves, Demand}
 use Rattle.comparison.proofs.One.{compare-numbered}
 
 -- a text that is accepted, by its number of lines and its circuit

@@ -30,15 +30,15 @@ use Rattle.text.specs.Judging.{Judged, turned-away, accepted, belongs, most, an
 use Rattle.text.proofs.Accepted.{judge-accepted, text-valid}
 use Rattle.text.proofs.Written.{judge-written}
 use Rattle.ordering.specs.declared.Comparison.{Comparison}
-use Rattle.ordering.specs.declared.Comparison.the-variants.{Less, Equal, Greater}
-use Rattle.ordering.specs.Comparing.{count-of, then, compare-numbers, compare-gates, dictionary, compare-lists, Compares}
+use Rattle.ordering.specs.declared.Comparison.the-variants.{Less}
+use Rattle.ordering.specs.Comparing.{count-of, then, compare-numbers, compare-gates, dictionary, compare-lists}
 use Rattle.ordering.proofs.Circuits.{fewer-lines, same-lines}
 use Rattle.habits.specs.Habits.{Exit}
-use Rattle.habits.specs.Demands.{failing-line, Sized, Accepts}
+use Rattle.habits.specs.Demands.{failing-line, Sized}
 use Rattle.habits.proofs.Lines.{judge-by-line}
 use Rattle.jobs.specs.Examples.{typed}
 use Rattle.comparison.specs.Compare.{Compare}
-use Rattle.comparison.specs.Demands.{by-first, by-second, Ran}
+use Rattle.comparison.specs.Demands.{by-first, by-second}
 use Rattle.comparison.specs.Examples.{Answer, says, away, Row, compares, least, longest-before, Shows, longest, Correct, table}
 use Rattle.comparison.proofs.Demands.{both-accepted, compare-demand}
 use Rattle.comparison.proofs.Order.{ran-compares, total-order}

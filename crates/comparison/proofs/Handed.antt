@@ -10,13 +10,13 @@ use Rattle.text.specs.declared.Head.{Head}
 use Rattle.text.specs.declared.Kind.the-variants as kind
 use Rattle.text.specs.declared.Refusal.{Refusal}
 use Rattle.text.specs.Judging.{turned-away, accepted}
-use Rattle.habits.specs.Habits.{Judgement, fine, away, Circuit, told, text-judged}
+use Rattle.habits.specs.Habits.{fine, away, Circuit, told, text-judged}
 use Rattle.loading.specs.declared.Loaded.{Loaded}
 use Rattle.loading.specs.declared.Loaded.the-variants as loaded
 use Rattle.records.proofs.Walk_text_list_text_list.{Leads}
-use Rattle.records.specs.declared.DoneTwo.{DoneTwo}
 use Rattle.jobs.specs.Jobs.{judged-text}
-use Rattle.jobs.specs.Handing.{exit-of-two, AcceptsReduced, LoadsReduced, refused-two}
+use Rattle.outcomes.specs.Outcomes.{refused-two}
+use Rattle.jobs.specs.Handing.{exit-of-two, AcceptsReduced, LoadsReduced}
 use Rattle.jobs.proofs.One.{text-passed}
 use Rattle.jobs.proofs.Habits.{judged-told}
 use Rattle.jobs.proofs.Handed.{refused-two-hands, succeeded-two-hands}

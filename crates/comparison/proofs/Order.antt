@@ -1,11 +1,11 @@
 -- Compare is a total order on linked classes. Assumes nothing.
 use Prim.Native.Nat.{ℕ, _-_, _≤_}
 use mathlib.Core.Path.{_≡_, refl, sym, ap, _∙_}
-use mathlib.Core.Logic.{_≢_, _↔_, _⊎_, ⊎-map}
-use mathlib.Core.List.{List, []}
+use mathlib.Core.Logic.{_≢_, _↔_, ⊎-map}
+use mathlib.Core.List.{List}
 use native.Mathlib.Omega.{arith}
 use Rattle.gates.specs.declared.Gate.{Gate}
-use Rattle.gates.specs.Circuit.{AllValid, Linked, done}
+use Rattle.gates.specs.Circuit.{AllValid, Linked}
 use Rattle.text.specs.declared.Kind.the-variants as kind
 use Rattle.text.proofs.Accepted.{judge-accepted, text-valid}
 use Rattle.ordering.specs.declared.Comparison.{Comparison}
@@ -14,7 +14,6 @@ use Rattle.ordering.specs.Comparing.{count-of, Compares, NotAfter}
 use Rattle.ordering.proofs.Linked as O
 use Rattle.ordering.proofs.Linked.{reduced-compares, compares-one, compares-count-turned, equal-linked, linked-compares, not-after-exactly-if}
 use Rattle.habits.specs.Habits.{Exit}
-use Rattle.habits.specs.Demands.{Accepts}
 use Rattle.comparison.specs.Demands.{Ran, TotalOrder}
 use Rattle.comparison.proofs.Demands.{both-accepted}
 

@@ -15,7 +15,8 @@ use Rattle.habits.specs.Habits.{Judgement, fine, _then_, Circuit, text-judged, 
 use Rattle.loading.specs.declared.Loaded.{Loaded}
 use Rattle.loading.specs.declared.Loaded.the-variants as loaded
 use Rattle.records.specs.declared.DoneTwo.{DoneTwo}
-use Rattle.jobs.specs.Handing.{HandsTwo, refused-two, succeeded-two}
+use Rattle.outcomes.specs.Outcomes.{refused-two, succeeded-two}
+use Rattle.jobs.specs.Handing.{HandsTwo}
 
 -- "Refusals come in the texts' order": the text s with a list of k records, then the text t with one of j
 unfoldable pub judged : List ℕ → ℕ → List ℕ → ℕ → Judgement (Circuit × Circuit)

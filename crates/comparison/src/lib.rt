@@ -58,9 +58,9 @@ fn answer_second(
     match second {
         Loaded::Accepted(head, n) => {
             let c = compare_lists(first, m, &codes, head, n, &codes2);
-            jobs::succeed_two(m, n, ordering::count(c), room, room2, codes, codes2)
+            outcomes::succeed_two(m, n, ordering::count(c), room, room2, codes, codes2)
         }
-        Loaded::Refused(r, line) => jobs::refuse_two(r, 2, line, room, room2, codes, codes2),
+        Loaded::Refused(r, line) => outcomes::refuse_two(r, 2, line, room, room2, codes, codes2),
     }
 }
 
@@ -75,7 +75,7 @@ pub fn compare_codes(first: &[u8], room: usize, second: &[u8], room2: usize) -> 
             let loaded = load(second, room2, &mut codes2);
             answer_second(head, m, loaded, room, room2, codes, codes2)
         }
-        Loaded::Refused(r, line) => jobs::refuse_two(r, 1, line, room, room2, codes, codes2),
+        Loaded::Refused(r, line) => outcomes::refuse_two(r, 1, line, room, room2, codes, codes2),
     }
 }
 

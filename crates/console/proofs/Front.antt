@@ -1,41 +1,11 @@
--- What stands at the front of a buffer, as the input that was read, and of an area, as the bytes of an answer. Assumes nothing.
-use mathlib.Core.Path.{_≡_, sym, ap, _∙_, subst}
+-- The bytes of an answer stand at the front of an area. Assumes nothing.
+use mathlib.Core.Path.{_≡_, sym, ap, _∙_}
 use mathlib.Core.List.{List, _++_}
 use Prim.Native.Nat.{ℕ, _≤_}
 use native.Mathlib.Omega.{arith}
 use lib.ListN.{length, take, drop, length-append}
 use lib.Seq.{length-take-le, take-append-seam}
-use Rattle.console.specs.declared.Input.{Input}
-use Rattle.console.specs.declared.Input.the-variants.{Bytes}
-use Rattle.console.specs.declared.TwoInputs.{TwoInputs}
-use Rattle.console.specs.declared.TwoInputs.the-variants as two
-use Rattle.console.specs.Input.{Within, WithinTwo}
 use Rattle.console.specs.Output.{Fronts}
-
--- ---- the input
-
--- the n bytes read stand within the buffer
-pub fits : (buffer : List ℕ) {r : Input} {n : ℕ} → Within 0 (length buffer) r → r ≡ Bytes n → n ≤ length buffer
-fits buffer w e = subst (Within 0 (length buffer)) e w .1
-
--- and are its first n bytes
-pub front : (buffer : List ℕ) {n : ℕ} → n ≤ length buffer → n ≡ length (take n buffer)
-front buffer {n} h = sym (length-take-le n buffer h)
-
-pub part : (buffer : List ℕ) {r : Input} {n : ℕ} → Within 0 (length buffer) r → r ≡ Bytes n → n ≡ length (take n buffer)
-part buffer {n} w e = front buffer (fits buffer w e)
-
--- those of two texts stand within their buffers
-pub both-fit : (a b : ℕ) {r : TwoInputs} {m n : ℕ} → WithinTwo a b r → r ≡ two.Bytes m n → (m ≤ a) × (n ≤ b)
-both-fit a b w e = subst (WithinTwo a b) e w
-
--- the first may have more room than it needs
-pub wider : (m a b : ℕ) (r : TwoInputs) → m ≤ a → WithinTwo m b r → WithinTwo a b r
-wider m a b (two.Bytes i j) h w = (omega (arith, h, w .0), w .1)
-wider m a b two.Unreadable h w = tt
-wider m a b two.Misused h w = tt
-
--- ---- an answer
 
 module _ {a : List ℕ} {n : ℕ} {b w : List ℕ} (f : Fronts a n b w) where
   -- it stands within the area

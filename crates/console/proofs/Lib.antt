@@ -1,5 +1,4 @@
 -- The laws and theorems of this crate, in reading order.
-pub mod Counted
 pub mod Front
 pub mod Answers
 pub mod Prints

@@ -1,3 +1,2 @@
 -- The definitions of this crate, in reading order.
-pub mod Input
 pub mod Output

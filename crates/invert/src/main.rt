@@ -1,7 +1,7 @@
 // Inverts a circuit text, of the file named or else on standard input.
 ghost use Rattle.console.specs.Output.{Answers};
 ghost use Rattle.invert.specs.Output.{Prints};
-use console::Input;
+use files::Input;
 
 // How many records the gate list has for the job: as many as a text may have gates. The program itself needs no list.
 const RECORDS: usize = 4096;
@@ -22,7 +22,7 @@ fn answer(text: &[u8], out: &mut [u8; console::ANSWER_BYTES]) -> usize
 fn print(text: &[u8], bytes: &[u8])
     requires { ⌜ Prints (now text) (now bytes) ⌝ }
 {
-    console::write_out(bytes);
+    files::write_out(bytes);
 }
 
 // Writes the answer for a text.
@@ -35,9 +35,9 @@ fn run_on(text: &[u8]) {
 // The buffer takes one byte more than a text may have, so a longer one is seen to be too long.
 fn main() {
     let mut buffer = [0u8; console::TEXT_BYTES + 1];
-    match console::read_text(&mut buffer) {
+    match files::read_text(&mut buffer) {
         Input::Bytes(n) => run_on(&buffer[..n]),
         Input::Unreadable => {}
-        Input::Misused => console::tell(b"usage: invert [FILE]\n"),
+        Input::Misused => files::tell(b"usage: invert [FILE]\n"),
     }
 }

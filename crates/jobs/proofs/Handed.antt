@@ -1,86 +1,43 @@
 -- What the covered part of a job hands over makes the job say what it should: of the gate list that needs only its length. Assumes nothing.
 use mathlib.Core.Path.{_≡_, refl, sym, ap, _∙_, subst}
 use mathlib.Core.Bool.{Bool, true, false, cond, true≢false}
-use mathlib.Core.List.{List, [], _∷_, _++_, append-nil}
-use Prim.Native.Nat.{ℕ, zero, suc, _-_, _≤_, _<_}
+use mathlib.Core.List.{List, [], _∷_, _++_}
+use Prim.Native.Nat.{ℕ, zero, suc, _≤_, _<_}
 use native.Mathlib.Omega.{arith}
-use lib.ListN.{length, take, drop, replicate, drop-of-length-le, length-take}
+use lib.ListN.{length, take, drop, length-take}
 use lib.Seq.{take-take}
-use lib.Dec.{eqb, ltb, leb}
+use lib.Dec.{eqb, ltb}
 use borrow.Author.Tests.{ne-eqb, lt-ltb, le-ltb}
 use Rattle.gates.specs.declared.Gate.{Gate}
-use Rattle.gates.specs.declared.Gate.the-variants.{Not}
 use Rattle.gates.specs.Code.{gates}
 use Rattle.gates.proofs.CodeLists.{length-gates, all-codes-take}
 use Rattle.records.specs.declared.Done.{Done}
 use Rattle.records.specs.Records.{filled-by}
 use Rattle.records.proofs.Walk_text_list_area.{Leads}
 use Rattle.text.specs.declared.Refusal.{Refusal}
-use Rattle.text.specs.declared.Refusal.the-variants.{Overlong, ShortList, Malformed, NoSuchLine, Crossed, Unsorted, TooWide, NoSpare, TooMany, ShortAnswer, DifferentLines}
+use Rattle.text.specs.declared.Refusal.the-variants.{ShortAnswer}
 use Rattle.text.specs.declared.Head.{Head}
 use Rattle.text.specs.Refusals.{number-of}
 use Rattle.text.specs.declared.Kind.{Kind}
 use Rattle.text.specs.declared.Kind.the-variants.{Cascade, Circuit}
 use Rattle.text.specs.Judging.{Judged, turned-away, accepted, first, or-else, judge}
-use Rattle.loading.specs.declared.Verdict.{Verdict}
+use Rattle.judging.specs.declared.Verdict.{Verdict}
 use Rattle.loading.specs.declared.Loaded.{Loaded}
 use Rattle.loading.specs.declared.Loaded.the-variants as loaded
-use Rattle.loading.specs.Seen.{seen-verdict}
+use Rattle.judging.specs.Seen.{seen-verdict}
 use Rattle.loading.specs.Loaded.{Renderable, LoadsTo}
 use Rattle.reduction.specs.Reducing.{ReducedTo}
 use Rattle.habits.specs.Habits as habits
-use Rattle.habits.specs.Habits.{size-rules, left, filled, all-filled, Judgement, fine, away, Lent, Answer}
+use Rattle.habits.specs.Habits.{size-rules, filled, all-filled, Judgement, fine, away, Lent, Answer}
 use Rattle.jobs.specs.Jobs.{Job, mapping, takes, Output, as-text, as-count, output, writes, Exit, refusal, judged, judged-text, success, written, answered, Settled, Says}
 use Rattle.jobs.proofs.One.{text-passed, passed-valid}
-use Rattle.jobs.specs.Handing.{exit-of, Said, limit-of, Settles, HandsOne, Hands, exit-of-text, HandsText, AcceptsReduced, LoadsReduced, HandsTwo, refusal-filling, success-filling, refused, refused-two, succeeded-two, succeeded, with-text, text-of, written-done, written-area, quotes, put-done, put-area, loaded-done, loaded-area, Answerable}
+use Rattle.outcomes.proofs.Outcomes.{refusal-list, success-list, refusal-settles}
+use Rattle.outcomes.specs.Outcomes.{limit-of, Settles, success-filling, refused, refused-two, succeeded-two, succeeded, with-text}
+use Rattle.jobs.specs.Handing.{exit-of, Said, HandsOne, Hands, exit-of-text, HandsText, AcceptsReduced, LoadsReduced, HandsTwo, text-of, written-done, written-area, quotes, put-done, put-area, loaded-done, loaded-area, Answerable}
 
--- ---- the records
+-- ---- the gate list
 
--- where every record is written, nothing is left of the list
-all-written : (x l : List Gate) (room : ℕ) → length l ≡ room → x ++ drop room l ≡ x
-all-written x l room e = ap (λ (t : List Gate). x ++ t) (drop-of-length-le l {i = room} (omega (arith, e))) ∙ append-nil x
-
--- what a refusal leaves in a list
-pub refusal-list : (r : Refusal) (room : ℕ) (codes : List ℕ) (l : List Gate) → length l ≡ room → filled-by (refusal-filling r room codes) l ≡ left r l
-unfolding refusal-filling left
-refusal-list r room codes l e = go (leb (number-of r) 2)
-  where
-    go : (b : Bool) → (gates (take 0 codes) ++ replicate (cond b 0 room - 0) (Not 0)) ++ drop (cond b 0 room) l ≡ cond b l (replicate (length l) (Not 0))
-    go true = refl
-    go false =
-        let x : room - 0 ≡ length l = omega (arith, e) in
-        all-written (replicate (room - 0) (Not 0)) l room e ∙ ap (λ (n : ℕ). replicate n (Not 0)) x
-
--- what success leaves in it
-pub success-list : (m room : ℕ) (codes : List ℕ) (l : List Gate) → m ≤ length codes → length l ≡ room → filled-by (success-filling m room codes) l ≡ filled (gates (take m codes)) l
-unfolding success-filling filled
-success-list m room codes l h e =
-    let x : room - m ≡ length l - length (gates (take m codes)) = omega (arith, e, length-gates (take m codes), length-take m codes, h) in
-    all-written (gates (take m codes) ++ replicate (room - m) (Not 0)) l room e ∙ ap (λ (n : ℕ). gates (take m codes) ++ replicate n (Not 0)) x
-
--- 1 and 2 are refusals
-limit-refusal : (r : Refusal) (room : ℕ) → cond (leb (number-of r) 2) 0 room ≡ limit-of (number-of r) room
-unfolding limit-of
-limit-refusal Overlong room = refl
-limit-refusal ShortList room = refl
-limit-refusal Malformed room = refl
-limit-refusal NoSuchLine room = refl
-limit-refusal Crossed room = refl
-limit-refusal Unsorted room = refl
-limit-refusal TooWide room = refl
-limit-refusal NoSpare room = refl
-limit-refusal TooMany room = refl
-limit-refusal ShortAnswer room = refl
-limit-refusal DifferentLines room = refl
-
-pub refusal-settles : (r : Refusal) (room : ℕ) (codes : List ℕ) → Settles (number-of r) room (refusal-filling r room codes)
-unfolding refusal-filling
-refusal-settles r room codes = record { fits = record { there = omega arith; valid = tt; few = omega arith; within = go (leb (number-of r) 2) }; limit = limit-refusal r room }
-  where
-    go : (b : Bool) → cond b 0 room ≤ room
-    go true = omega arith
-    go false = omega arith
-
+-- what is handed over with success can be written into it
 pub success-settles : {h : Head} {m : ℕ} (room : ℕ) {codes : List ℕ} → Renderable h m codes → 4096 ≤ room → Settles 0 room (success-filling m room codes)
 unfolding success-filling limit-of
 success-settles room w l = record { fits = record { there = w .few; valid = w .codes; few = omega (arith, l, w .few); within = omega arith }; limit = refl }

@@ -9,7 +9,7 @@ use lib.ListN.{length}
 use Rattle.text.specs.declared.Kind.{Kind}
 use Rattle.text.specs.declared.Kind.the-variants.{Cascade}
 use Rattle.text.specs.declared.Refusal.{Refusal}
-use Rattle.text.specs.Judging.{Judged, turned-away, accepted, first}
+use Rattle.text.specs.Judging.{Judged, turned-away, first}
 use Rattle.text.proofs.Lowest.{judge, Alike, refused, as-long, alike-next, judged-alike, FewControls, judged-before, circuits-before}
 use Rattle.habits.specs.Habits.{size-rules}
 use Rattle.jobs.specs.Jobs as now

@@ -4,7 +4,7 @@ use mathlib.Core.Bool.{Bool, true, false, cond}
 use mathlib.Core.List.{List, [], _∷_, _++_}
 use Prim.Native.Nat.{ℕ}
 use lib.ListN.{length, take, drop, replicate}
-use lib.Dec.{eqb, leb, ltb}
+use lib.Dec.{ltb}
 use Rattle.gates.specs.declared.Gate.{Gate}
 use Rattle.gates.specs.declared.Gate.the-variants.{Not}
 use Rattle.gates.specs.Reduced.{Reduced}
@@ -13,19 +13,17 @@ use Rattle.records.specs.declared.Done.{Done}
 use Rattle.records.specs.declared.DoneText.{DoneText}
 use Rattle.records.specs.declared.DoneTwo.{DoneTwo}
 use Rattle.records.specs.declared.TextOutcome.{TextOutcome}
-use Rattle.records.specs.declared.Filling.{Filling}
 use Rattle.records.specs.declared.Outcome.{Outcome}
-use Rattle.records.specs.Records.{filled-by, Fits}
-use Rattle.text.specs.declared.Refusal.{Refusal}
+use Rattle.records.specs.Records.{filled-by}
 use Rattle.text.specs.declared.Refusal.the-variants.{ShortAnswer}
 use Rattle.text.specs.declared.Head.{Head}
-use Rattle.text.specs.Refusals.{number-of}
 use Rattle.text.specs.Text.{circuit-text}
 use Rattle.text.specs.Judging.{Judged, turned-away, accepted}
 use Rattle.loading.specs.Loaded.{Renderable}
 use Rattle.loading.specs.declared.Loaded.{Loaded}
 use Rattle.loading.specs.declared.Loaded.the-variants as loaded
 use Rattle.habits.specs.Habits as habits
+use Rattle.outcomes.specs.Outcomes.{Settles, refused, succeeded}
 use Rattle.jobs.specs.Jobs.{Job, Output, as-text, as-count, Exit, Says}
 
 -- the exit with this outcome, this list and this area
@@ -35,15 +33,6 @@ exit-of o l a = record { number = o .number; line = o .line; gates = o .gates; b
 -- what a job says of its text, list and area at entry, its outcome, and its list and area at exit
 abbrev pub Said : Job → List ℕ → List Gate → List ℕ → Outcome → List Gate → List ℕ → Type 0
 Said j s l a o l′ a′ = Says j (record { text = s; list = l; area = a }) (exit-of o l′ a′)
-
--- how many of so many records are written with this number: none with 1 and 2, else all
-unfoldable pub limit-of : ℕ → ℕ → ℕ
-limit-of number room = cond (eqb number 1) 0 (cond (eqb number 2) 0 room)
-
--- what is handed over for a list of so many records, with this number, can be written into it, and settles which records are written
-pub record Settles (number room : ℕ) (f : Filling) : Type 0 where
-  pub fits : Fits f room
-  pub limit : f .limit ≡ limit-of number room
 
 -- what the covered part promises, where it is to say `Says` of the gate list: it is given only the length of the list, and says it of every list of
 -- that length; a′ is the area at exit
@@ -93,42 +82,6 @@ LoadsReduced j codes (loaded.Accepted h m) = AcceptsReduced j codes h m
 LoadsReduced j codes (loaded.Refused r l) = j ≡ turned-away r l
 
 -- ---- what is handed over
-
--- for a list of so many records, with a refusal: no gates; 1 and 2 write no record, the others write all
-unfoldable pub refusal-filling : Refusal → ℕ → List ℕ → Filling
-refusal-filling r room codes = record { codes = codes; gates = 0; limit = cond (leb (number-of r) 2) 0 room }
-
--- with success: the first m codes, and every later record
-unfoldable pub success-filling : ℕ → ℕ → List ℕ → Filling
-success-filling m room codes = record { codes = codes; gates = m; limit = room }
-
--- a refusal at line l
-unfoldable pub refused : Refusal → ℕ → ℕ → List ℕ → Done
-refused r l room codes = record { filling = refusal-filling r room codes; outcome = record { number = number-of r; line = l; gates = 0; bytes = 0 } }
-
--- success with the first m codes, and this many bytes written
-unfoldable pub succeeded : ℕ → ℕ → ℕ → List ℕ → Done
-succeeded m bytes room codes = record { filling = success-filling m room codes; outcome = record { number = 0; line = 0; gates = m; bytes = bytes } }
-
--- a refusal of a job over two gate lists, at line l of text t
-unfoldable pub refused-two : Refusal → (text line : ℕ) → ℕ → ℕ → List ℕ → List ℕ → DoneTwo
-refused-two r t l room room′ codes codes′ = record {
-  first = refusal-filling r room codes;
-  second = refusal-filling r room′ codes′;
-  outcome = record { number = number-of r; line = l; text = t; count = 0 };
-}
-
--- its success with the first m codes in the first list, the first n in the second, and this count
-unfoldable pub succeeded-two : ℕ → ℕ → ℕ → ℕ → ℕ → List ℕ → List ℕ → DoneTwo
-succeeded-two m n count room room′ codes codes′ = record {
-  first = success-filling m room codes;
-  second = success-filling n room′ codes′;
-  outcome = record { number = 0; line = 0; text = 0; count = count };
-}
-
--- what a job over one text hands over, as one over several texts does: with a text number, and the bytes for the count
-unfoldable pub with-text : (text : ℕ) → Done → DoneText
-with-text t d = record { filling = d .filling; outcome = record { number = d .outcome .number; line = d .outcome .line; text = t; count = d .outcome .bytes } }
 
 -- the first m codes as a text
 abbrev pub text-of : Head → ℕ → List ℕ → List ℕ

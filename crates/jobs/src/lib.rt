@@ -1,158 +1,22 @@
 // Two jobs: map a cascade text, or quote its gate count alone; reduce a circuit text.
 use gates::Gate;
+use judging::Verdict;
 use loading::Loaded;
-use loading::Verdict;
 use records::Done;
-use records::DoneText;
-use records::DoneTwo;
-use records::Filling;
 use records::Outcome;
-use records::TextOutcome;
 use text::Head;
 use text::Kind;
 use text::Refusal;
 ghost use mathlib.Core.Path.{_≡_};
-ghost use mathlib.Core.Bool.{cond};
 ghost use mathlib.Core.List.{[], _∷_};
 ghost use Prim.Native.Nat.{_≤_};
-ghost use lib.Dec.{leb};
 ghost use lib.ListN.{length};
 ghost use Rattle.text.specs.Judging.{first};
-ghost use Rattle.loading.specs.Seen.{seen-verdict};
+ghost use Rattle.judging.specs.Seen.{seen-verdict};
 ghost use Rattle.loading.specs.Loaded.{Renderable, LoadsTo};
 ghost use Rattle.habits.specs.Habits.{size-rules};
 ghost use Rattle.jobs.specs.Jobs.{mapping, reducing, output, writes, judged-text, Says};
-ghost use Rattle.jobs.specs.Handing.{LoadsReduced, Hands, Own, refusal-filling, success-filling, refused, refused-two, succeeded-two, succeeded, written-done, written-area, with-text, quotes, put-done, put-area, loaded-done, loaded-area, Answerable};
-
-// How many records a refusal writes: none for 1 and 2, else all.
-fn limit(number: u8, room: usize) -> usize
-    ensures { λ r. ⌜ r ≡ cond (leb number 2) 0 room ⌝ }
-{
-    if number <= 2 {
-        return 0;
-    }
-    room
-}
-
-// What a refusal leaves in a gate list of `room` records: no gates.
-fn refuse_list(r: Refusal, room: usize, codes: [u16; 4096]) -> Filling
-    ensures { λ f. ⌜ f ≡ refusal-filling r room codes ⌝ }
-{
-    let number = text::number(r);
-    Filling {
-        codes,
-        gates: 0,
-        limit: limit(number, room),
-    }
-}
-
-// What success leaves in it: the gates of the first m codes.
-fn succeed_list(m: usize, room: usize, codes: [u16; 4096]) -> Filling
-    ensures { λ f. ⌜ f ≡ success-filling m room codes ⌝ }
-{
-    Filling {
-        codes,
-        gates: m,
-        limit: room,
-    }
-}
-
-// A refusal, with its line.
-pub fn refuse(r: Refusal, line: usize, room: usize, codes: [u16; 4096]) -> Done
-    ensures { λ d. ⌜ d ≡ refused r line room codes ⌝ }
-{
-    let filling = refuse_list(r, room, codes);
-    let outcome = Outcome {
-        number: text::number(r),
-        line,
-        gates: 0,
-        bytes: 0,
-    };
-    Done { filling, outcome }
-}
-
-// What a job over one text hands over, as one over several texts does: with a text number, and the bytes for the count.
-pub fn with_text(d: Done, text: u8) -> DoneText
-    ensures { λ r. ⌜ r ≡ with-text text d ⌝ }
-{
-    let filling = d.filling;
-    let said = d.outcome;
-    let outcome = TextOutcome {
-        number: said.number,
-        line: said.line,
-        text,
-        count: said.bytes,
-    };
-    DoneText { filling, outcome }
-}
-
-// A refusal of a job over two gate lists, at a line of the text of this number.
-pub fn refuse_two(
-    r: Refusal,
-    text: u8,
-    line: usize,
-    room: usize,
-    room2: usize,
-    codes: [u16; 4096],
-    codes2: [u16; 4096],
-) -> DoneTwo
-    ensures { λ d. ⌜ d ≡ refused-two r text line room room2 codes codes2 ⌝ }
-{
-    let first = refuse_list(r, room, codes);
-    let second = refuse_list(r, room2, codes2);
-    let outcome = TextOutcome {
-        number: text::number(r),
-        line,
-        text,
-        count: 0,
-    };
-    DoneTwo {
-        first,
-        second,
-        outcome,
-    }
-}
-
-// Its success, with the first m codes, the first n, and a count.
-pub fn succeed_two(
-    m: usize,
-    n: usize,
-    count: usize,
-    room: usize,
-    room2: usize,
-    codes: [u16; 4096],
-    codes2: [u16; 4096],
-) -> DoneTwo
-    ensures { λ d. ⌜ d ≡ succeeded-two m n count room room2 codes codes2 ⌝ }
-{
-    let first = succeed_list(m, room, codes);
-    let second = succeed_list(n, room2, codes2);
-    let outcome = TextOutcome {
-        number: 0,
-        line: 0,
-        text: 0,
-        count,
-    };
-    DoneTwo {
-        first,
-        second,
-        outcome,
-    }
-}
-
-// Success, with the first so many codes and so many bytes written.
-fn succeed(gates: usize, bytes: usize, room: usize, codes: [u16; 4096]) -> Done
-    ensures { λ d. ⌜ d ≡ succeeded gates bytes room codes ⌝ }
-{
-    let filling = succeed_list(gates, room, codes);
-    let outcome = Outcome {
-        number: 0,
-        line: 0,
-        gates,
-        bytes,
-    };
-    Done { filling, outcome }
-}
+ghost use Rattle.jobs.specs.Handing.{LoadsReduced, Hands, Own, written-done, written-area, quotes, put-done, put-area, loaded-done, loaded-area, Answerable};
 
 // The first m codes written as a circuit text, where the answer area has room for it.
 pub fn answer_text(head: Head, m: usize, room: usize, codes: [u16; 4096], answer: &mut [u8]) -> Done
@@ -161,10 +25,10 @@ pub fn answer_text(head: Head, m: usize, room: usize, codes: [u16; 4096], answer
 {
     let size = writing::measure(head, &codes, m);
     if answer.len() < size {
-        return refuse(Refusal::ShortAnswer, 0, room, codes);
+        return outcomes::refuse(Refusal::ShortAnswer, 0, room, codes);
     }
     let bytes = writing::write_circuit(head, &codes, m, answer);
-    succeed(m, bytes, room, codes)
+    outcomes::succeed(m, bytes, room, codes)
 }
 
 // Whether the job over a text of this kind only quotes, with an answer area of this size: map does, if the area is empty.
@@ -190,7 +54,7 @@ fn put_out(
     ensures { λ d. ⌜ (d ≡ put-done (output (writes kind) (length (now (answer .entry)))) head m room codes (now (answer .entry))) × (now (answer .exit) ≡ put-area (output (writes kind) (length (now (answer .entry)))) head m codes (now (answer .entry))) ⌝ }
 {
     if quote_only(kind, answer.len()) {
-        return succeed(m, 0, room, codes);
+        return outcomes::succeed(m, 0, room, codes);
     }
     answer_text(head, m, room, codes, answer)
 }
@@ -208,7 +72,7 @@ pub fn answer_loaded(
 {
     match loaded {
         Loaded::Accepted(head, m) => put_out(kind, head, m, room, codes, answer),
-        Loaded::Refused(r, line) => refuse(r, line, room, codes),
+        Loaded::Refused(r, line) => outcomes::refuse(r, line, room, codes),
     }
 }
 

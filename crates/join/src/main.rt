@@ -1,7 +1,7 @@
 // Joins the circuit texts of two files, the first before the second.
 ghost use Rattle.console.specs.Output.{Answers};
 ghost use Rattle.join.specs.Output.{Prints};
-use console::TwoInputs;
+use files::TwoInputs;
 
 // How many records the gate list has for the job: as many as a text may have gates. The program itself needs no list.
 const RECORDS: usize = 4096;
@@ -22,7 +22,7 @@ fn answer(first: &[u8], second: &[u8], out: &mut [u8; console::ANSWER_BYTES]) ->
 fn print(first: &[u8], second: &[u8], bytes: &[u8])
     requires { ⌜ Prints (now first) (now second) (now bytes) ⌝ }
 {
-    console::write_out(bytes);
+    files::write_out(bytes);
 }
 
 // Writes the answer for two texts.
@@ -36,9 +36,9 @@ fn run_on(first: &[u8], second: &[u8]) {
 fn main() {
     let mut first = [0u8; console::TEXT_BYTES + 1];
     let mut second = [0u8; console::TEXT_BYTES + 1];
-    match console::read_two(&mut first, &mut second) {
+    match files::read_two(&mut first, &mut second) {
         TwoInputs::Bytes(m, n) => run_on(&first[..m], &second[..n]),
         TwoInputs::Unreadable => {}
-        TwoInputs::Misused => console::tell(b"usage: join FIRST SECOND\n"),
+        TwoInputs::Misused => files::tell(b"usage: join FIRST SECOND\n"),
     }
 }

@@ -14,7 +14,8 @@ use Rattle.loading.specs.Loaded.{Renderable}
 use Rattle.records.proofs.Walk_text_list_text_area.{Leads}
 use Rattle.jobs.specs.Jobs.{as-text}
 use Rattle.jobs.specs.Habits.{Right}
-use Rattle.jobs.specs.Handing.{exit-of-text, refused, with-text, written-done, written-area}
+use Rattle.outcomes.specs.Outcomes.{refused, with-text}
+use Rattle.jobs.specs.Handing.{exit-of-text, written-done, written-area}
 use Rattle.jobs.proofs.Handed.{refused-text-hands, written-text-hands}
 use Rattle.joins.specs.Join.{judged, Join, Hands, circuit-of, Accepts}
 use Rattle.joins.proofs.One.{yields-judged}

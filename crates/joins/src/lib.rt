@@ -77,11 +77,11 @@ pub fn join_codes(first: &[u8], room: usize, second: &[u8], answer: &mut [u8]) -
         Joined::Accepted(head, m) => {
             let fewer = reduction::reduce(&mut codes, m);
             let d = jobs::answer_text(head, fewer, room, codes, answer);
-            jobs::with_text(d, 0)
+            outcomes::with_text(d, 0)
         }
         Joined::Refused(r, text, line) => {
-            let d = jobs::refuse(r, line, room, codes);
-            jobs::with_text(d, text)
+            let d = outcomes::refuse(r, line, room, codes);
+            outcomes::with_text(d, text)
         }
     }
 }

@@ -27,15 +27,15 @@ use Rattle.cascades.specs.Cascade.{Below}
 use Rattle.cascades.proofs.SignLines.{negated-fewer}
 use Rattle.expansion.specs.Written.{Written}
 use Rattle.expansion.proofs.Writing.{one}
-use Rattle.reading.specs.declared.Controls.{Controls}
-use Rattle.reading.specs.Seen.{listed, gathered}
-use Rattle.reading.proofs.Gathered.{AreLines, lines-are, negated-are}
-use Rattle.loading.specs.Seen.{HasHead, keeps, fails, judge-line}
+use Rattle.gathering.specs.declared.Controls.{Controls}
+use Rattle.gathering.specs.Gathering.{listed, gathered}
+use Rattle.gathering.proofs.Gathered.{AreLines, lines-are, negated-are}
+use Rattle.judging.specs.Seen.{HasHead, keeps, fails, judge-line}
 use Rattle.loading.specs.declared.Loaded.{Loaded}
 use Rattle.loading.specs.declared.Loaded.the-variants as loaded
 use Rattle.loading.specs.declared.Progress.{Progress}
 use Rattle.loading.specs.Loaded.{LoadsTo, standing, refused-at, Begun, judged-on, Counted, Sound, Stands, Ready, Taken, ExpansionFits}
-use Rattle.loading.proofs.Lines.{goes-on, line-judged, line-kept}
+use Rattle.judging.proofs.Lines.{goes-on, line-judged, line-kept}
 
 -- ---- the judging goes on
 

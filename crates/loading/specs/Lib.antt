@@ -1,3 +1,2 @@
 -- The definitions of this crate, in reading order.
-pub mod Seen
 pub mod Loaded

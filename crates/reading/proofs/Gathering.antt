@@ -1,27 +1,14 @@
--- The controls of an mct line, gathered one after the other: what the reader's loop and one turn of it do. Assumes nothing.
+-- The controls of an mct line, read and gathered one after the other: what the loop and one turn of it do. Assumes nothing.
 use mathlib.Core.Path.{_≡_, refl}
-use mathlib.Core.Bool.{Bool, true, false, cond, _&&_, _||_, and-true, and-false}
+use mathlib.Core.Bool.{true, false}
 use mathlib.Core.List.{List, _∷_}
-use Prim.Native.Nat.{ℕ, zero, suc, _+_, _-_, _≤_, _<_}
+use Prim.Native.Nat.{ℕ, zero, suc, _-_, _≤_, _<_}
 use native.Mathlib.Omega.{arith}
 use lib.ListN.{length, drop}
-use lib.Dec.{eqb, ltb}
-use borrow.Author.Tests.{eq-eqb, ne-eqb, le-ltb, lt-ltb}
 use Rattle.cascades.specs.declared.Control.{Control}
 use Rattle.text.specs.Reading.{Got, got, none, bind, control, controls}
-use Rattle.reading.specs.declared.Controls.{Controls}
-use Rattle.reading.specs.Seen.{added, noted, noted-all}
-
--- one control more is at most one negated one more
-pub noted-few : (a : Controls) (c : Control) → noted a c .negated .count ≤ a .negated .count + 1
-unfolding noted added
-noted-few a c = go (c .negated)
-  where
-    go : (b : Bool) → cond b (added (a .negated) (c .line)) (a .negated) .count ≤ a .negated .count + 1
-    go true = omega arith
-    go false = omega arith
-
--- ---- the loop
+use Rattle.gathering.specs.declared.Controls.{Controls}
+use Rattle.gathering.specs.Gathering.{noted, noted-all}
 
 module _ (s : List ℕ) (a : Controls) where
   -- what is gathered after a, of at most k controls from the place p on
@@ -48,14 +35,3 @@ module _ (s : List ℕ) (a : Controls) where
   unfolding controls
   rest-more zero p q c e h l = absurd (omega arith)
   rest-more (suc k) p q c e h l = (k, refl, rw e (noted-first c (controls k (drop q s))))
-
--- ---- whether the controls still rise at c, after n of them with last l
-
-pub rises-not : (r : Bool) (n l c : ℕ) → (n ≡ 0 → ⊥) → c ≤ l → r && (eqb n 0 || ltb l c) ≡ false
-rises-not r n l c h k = rw (ne-eqb n 0 h, le-ltb l c k) (and-false r)
-
-pub rises-on : (r : Bool) (n l c : ℕ) → (n ≡ 0 → ⊥) → l < c → r && (eqb n 0 || ltb l c) ≡ r
-rises-on r n l c h k = rw (ne-eqb n 0 h, lt-ltb l c k) (and-true r)
-
-pub rises-first : (r : Bool) (n l c : ℕ) → n ≡ 0 → r && (eqb n 0 || ltb l c) ≡ r
-rises-first r n l c h = rw (eq-eqb n 0 h) (and-true r)

@@ -2,7 +2,8 @@
 use mathlib.Core.Path.{_≡_, refl, sym, ap, _∙_}
 use mathlib.Core.Bool.{Bool, true, false, cond, not, _&&_, _||_, and-eq-true-iff}
 use mathlib.Core.List.{List, [], _∷_}
-use Prim.Native.Nat.{ℕ}
+use native.Mathlib.Omega.{arith}
+use Prim.Native.Nat.{ℕ, _≤_}
 use lib.Dec.{eqb}
 use borrow.Author.Tests.{eq-eqb, eqb-true}
 use Rattle.gates.specs.declared.Gate.{Gate}
@@ -11,8 +12,12 @@ use Rattle.cascades.specs.declared.Control.{Control}
 use Rattle.text.specs.Text.{Form, lines, gate, mct, bytes}
 use Rattle.text.specs.Reading.{Got, got, none, bind, if-got, strip, num, tail, pair, with-sign, signed, control, list, many, lines-body, not-body, mct-body, powered-body, parse}
 use Rattle.text.proofs.Printed.{none-got}
-use Rattle.reading.specs.declared.Controls.{Controls}
-use Rattle.reading.specs.Seen.{only-head, only-gate, only-mct, gathered, all-gathered, with-gathered, delimited, followed, two-after, or-powered}
+use Rattle.gathering.specs.declared.Controls.{Controls}
+use Rattle.reading.specs.declared.ControlForm.{ControlForm}
+use Rattle.reading.specs.declared.ControlForm.the-variants as control-form
+use Rattle.tokens.specs.Seen.{delimited}
+use Rattle.gathering.specs.Gathering.{gathered}
+use Rattle.reading.specs.Seen.{control-tells, only-head, only-gate, only-mct, all-gathered, with-gathered, followed, two-after, or-powered}
 
 -- ---- a text begins with at most one of two words that differ at a place that both have
 
@@ -85,6 +90,12 @@ word-line (x ∷ t) s d =
     go h d (got tt r) e = rw (no-other (x .0) s r t e d) (sym (or-none (x .1 r)))
 
 -- ---- the parts of a line
+
+-- a control that was found from a later place on
+pub control-further : (s : List ℕ) (at p : ℕ) (g h : Got (Control × Bool)) (r : ControlForm) → at ≤ p → g ≡ h → control-tells s p h r → control-tells s at g r
+control-further s at p g h (control-form.More c next) l e w = (e ∙ w .0, (omega (arith, l, w .1 .0), w .1 .1))
+control-further s at p g h (control-form.Last c next) l e w = (e ∙ w .0, (omega (arith, l, w .1 .0), w .1 .1))
+control-further s at p g h control-form.Missing l e w = e ∙ w
 
 module _ {A B C : Type 0} where
   -- a function goes below the first step of a parse

@@ -1,26 +1,22 @@
 -- What the cursor's answers say, in the terms of the parser in text's Reading. Assumes nothing.
 use mathlib.Core.Path.{_≡_}
-use Prim.Native.Nat.{ℕ, _+_, _≤_, _<_, max}
-use mathlib.Core.Bool.{Bool, true, false, cond, _&&_, _||_}
-use mathlib.Core.List.{List, [], _∷_}
-use lib.ListN.{length, take, drop, set, replicate}
-use lib.Dec.{eqb, ltb}
+use Prim.Native.Nat.{ℕ}
+use mathlib.Core.Bool.{Bool, true, false}
+use mathlib.Core.List.{List}
+use lib.ListN.{drop}
 use Rattle.gates.specs.declared.Gate.{Gate}
 use Rattle.gates.specs.declared.Gate.the-variants.{Powered}
 use Rattle.cascades.specs.declared.Control.{Control}
 use Rattle.text.specs.declared.Head.{Head}
 use Rattle.text.specs.Text.{Form, lines, gate, mct, bytes}
-use Rattle.text.specs.Reading.{Got, got, none, bind, if-got, strip, num, with-sign, pair}
-use Rattle.reading.specs.declared.Number.{Number}
-use Rattle.reading.specs.declared.Number.the-variants as number
-use Rattle.reading.specs.declared.Found.{Found}
-use Rattle.reading.specs.declared.Found.the-variants as found
+use Rattle.text.specs.Reading.{Got, got, none, bind, if-got, strip, with-sign, pair}
+use Rattle.tokens.specs.Seen.{ahead, reached}
+use Rattle.gathering.specs.declared.Controls.{Controls}
+use Rattle.gathering.specs.Gathering.{gathered}
 use Rattle.reading.specs.declared.Pair.{Pair}
 use Rattle.reading.specs.declared.Pair.the-variants as two
 use Rattle.reading.specs.declared.ControlForm.{ControlForm}
 use Rattle.reading.specs.declared.ControlForm.the-variants as control-form
-use Rattle.reading.specs.declared.LineList.{LineList}
-use Rattle.reading.specs.declared.Controls.{Controls}
 use Rattle.reading.specs.declared.GateForm.{GateForm}
 use Rattle.reading.specs.declared.GateForm.the-variants as gate-form
 use Rattle.reading.specs.declared.TargetForm.{TargetForm}
@@ -49,39 +45,7 @@ only-mct (got (lines n) s) = none
 only-mct (got (gate g) s) = none
 only-mct (got (mct cs t) s) = got (cs, t) s
 
--- ---- what is kept of the controls, one after the other
-
--- lines in order, one more
-unfoldable pub added : LineList → ℕ → LineList
-added l c = record { count = l .count + 1; first = set (l .first) (l .count) c }
-
-unfoldable pub no-lines : LineList
-no-lines = record { count = 0; first = replicate 16 0 }
-
--- the lines, of at most sixteen
-unfoldable pub listed : LineList → List ℕ
-listed l = take (l .count) (l .first)
-
--- a control more: its line, by which controls rise, and its sign
-unfoldable pub noted : Controls → Control → Controls
-noted a c = record {
-  lines = added (a .lines) (c .line);
-  negated = cond (c .negated) (added (a .negated) (c .line)) (a .negated);
-  rising = a .rising && (eqb (a .lines .count) 0 || ltb (a .last) (c .line));
-  last = c .line;
-  largest = max (a .largest) (c .line);
-  marks = set (a .marks) (c .line) true;
-}
-
-unfoldable pub noted-all : Controls → List Control → Controls
-noted-all a [] = a
-noted-all a (c ∷ cs) = noted-all (noted a c) cs
-
-unfoldable pub no-controls : Controls
-no-controls = record { lines = no-lines; negated = no-lines; rising = true; last = 0; largest = 0; marks = replicate 32 false }
-
-unfoldable pub gathered : List Control → Controls
-gathered cs = noted-all no-controls cs
+-- ---- the controls of an mct line, gathered
 
 unfoldable pub all-gathered : Got (List Control) → Got Controls
 all-gathered g = bind g (λ cs. got (gathered cs))
@@ -91,10 +55,6 @@ with-gathered none = none
 with-gathered (got p s) = got (gathered (p .0), p .1) s
 
 -- ---- parts of a line after a word
-
--- a number between fixed bytes: w before it, v after it
-unfoldable pub delimited : List ℕ → List ℕ → List ℕ → Got ℕ
-delimited w v s = bind (strip w s) (λ _ r. bind (num r) (λ x q. bind (strip v q) (λ _. got x)))
 
 -- a control whose sign was read, and whether another comes after it: a space, or `)`
 unfoldable pub followed : Bool → List ℕ → Got (Control × Bool)
@@ -108,19 +68,7 @@ two-after w s = bind (strip w s) (λ _. pair)
 unfoldable pub or-powered : Got Gate → List ℕ → ℕ → List ℕ → Got Gate
 or-powered before w p s = if-got before got (bind (two-after w s) (λ c. got (Powered p (c .0) (c .1))))
 
--- ---- the place only moves forward and stays within the text
-
-abbrev pub ahead : List ℕ → ℕ → ℕ → Type 0
-ahead s at next = (at < next) × (next ≤ length s)
-
 -- ---- what an answer tells of the parse g from the place at of the text s on: what was got, and the place after it
-
-abbrev pub reached : {A : Type 0} → List ℕ → ℕ → Got A → A → ℕ → Type 0
-reached s at g a next = (g ≡ got a (drop next s)) × ahead s at next
-
-abbrev pub number-tells : List ℕ → ℕ → Got ℕ → Number → Type 0
-number-tells s at g (number.Is x next) = reached s at g x next
-number-tells s at g number.Missing = g ≡ none
 
 abbrev pub pair-tells : List ℕ → ℕ → Got (ℕ × ℕ) → Pair → Type 0
 pair-tells s at g (two.Are c t next) = reached s at g (c, t) next
@@ -130,11 +78,6 @@ abbrev pub control-tells : List ℕ → ℕ → Got (Control × Bool) → Contro
 control-tells s at g (control-form.More c next) = reached s at g (c, true) next
 control-tells s at g (control-form.Last c next) = reached s at g (c, false) next
 control-tells s at g control-form.Missing = g ≡ none
-
--- the place alone, where a is got
-abbrev pub found-tells : {A : Type 0} → List ℕ → ℕ → Got A → A → Found → Type 0
-found-tells s at g a (found.At next) = (g ≡ got a (drop next s)) × (at ≤ next) × (next ≤ length s)
-found-tells s at g a found.Missing = g ≡ none
 
 -- ---- the lines, over the text s: what was got, and the bytes after the place
 

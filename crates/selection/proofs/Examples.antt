@@ -4,7 +4,7 @@ use native.Mathlib.Omega.{arith}
 use Rattle.gates.specs.declared.Gate.{Gate}
 use Rattle.gates.specs.declared.Gate.the-variants.{Not}
 use Rattle.gates.specs.Circuit.{target, slot}
-use Rattle.gates.specs.Sites.{Same, Less, low, tie, Free, free-nil, free-cons, Front, here, there}
+use Rattle.gates.specs.Sites.{Same, Less, low, tie, Free, free-nil, free-cons, here, there}
 use Rattle.gates.proofs.Examples.{cn}
 use Rattle.selection.specs.Selection.{First, Selects, nothing, select}
 

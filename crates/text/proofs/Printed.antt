@@ -185,13 +185,14 @@ minus-at-target : many (bytes ") -1)\n") ≡ none
 unfolding many list strip tail num second signed
 minus-at-target = refl
 
-pub strip-minus : (c : ℕ) (s : List ℕ) → strip (45 ∷ []) (digits c ++ s) ≡ none
+-- a number begins with none of the bytes below `0`
+pub strip-digits : (b c : ℕ) (s : List ℕ) → b < 48 → strip (b ∷ []) (digits c ++ s) ≡ none
 unfolding strip digits
-strip-minus c s = go (ltb c 10) refl
+strip-digits b c s h = go (ltb c 10)
   where
-    go : (t : Bool) → ltb c 10 ≡ t → strip (45 ∷ []) (cond t ((48 + c) ∷ []) ((48 + c / 10) ∷ (48 + c % 10) ∷ []) ++ s) ≡ none
-    go true e = rw (ne-eqb (48 + c) 45 (λ q. omega arith))
-    go false e = rw (ne-eqb (48 + c / 10) 45 (λ q. omega arith))
+    go : (t : Bool) → strip (b ∷ []) (cond t ((48 + c) ∷ []) ((48 + c / 10) ∷ (48 + c % 10) ∷ []) ++ s) ≡ none
+    go true = rw (ne-eqb (48 + c) b (λ q. omega (arith, h)))
+    go false = rw (ne-eqb (48 + c / 10) b (λ q. omega (arith, h)))
 
 signed-written : (c : Control) (b : ℕ) (s : List ℕ) → c .line < 100 → digit b ≡ false → signed (written c ++ b ∷ s) ≡ got c (b ∷ s)
 unfolding signed written
@@ -199,7 +200,7 @@ signed-written c b s h d = go (c .negated) refl
   where
     go : (g : Bool) → c .negated ≡ g → signed (cond g (bytes "-" ++ digits (c .line)) (digits (c .line)) ++ b ∷ s) ≡ got c (b ∷ s)
     go true e = unfold strip in rw (num-digits (c .line) b s h d, ← e)
-    go false e = rw (strip-minus (c .line) (b ∷ s), num-digits (c .line) b s h d, ← e)
+    go false e = rw (strip-digits 45 (c .line) (b ∷ s) (omega arith), num-digits (c .line) b s h d, ← e)
 
 signed-sound : (s : List ℕ) (c : Control) (r : List ℕ) → signed s ≡ got c r → (s ≡ written c ++ r) × (c .line < 100)
 unfolding signed
@@ -286,22 +287,13 @@ controls-sound (suc k) s cs r e =
         let z : w .1 ≡ r = cc in
         subst₂ (λ (l : List Control) (m : List ℕ). (s ≡ spaced l ++ 41 ∷ m) × Short l × Some l) y z (more c s′ (w .0) (w .1) e₁ (f s′ (w .0) (w .1) (w .2)))
 
--- a number does not begin with `)`
-strip-digits : (c : ℕ) (s : List ℕ) → strip (41 ∷ []) (digits c ++ s) ≡ none
-unfolding strip digits
-strip-digits c s = go (ltb c 10) refl
-  where
-    go : (t : Bool) → ltb c 10 ≡ t → strip (41 ∷ []) (cond t ((48 + c) ∷ []) ((48 + c / 10) ∷ (48 + c % 10) ∷ []) ++ s) ≡ none
-    go true e = rw (ne-eqb (48 + c) 41 (λ q. omega arith))
-    go false e = rw (ne-eqb (48 + c / 10) 41 (λ q. omega arith))
-
 strip-written : (c : Control) (s : List ℕ) → strip (41 ∷ []) (written c ++ s) ≡ none
 unfolding written
 strip-written c s = go (c .negated)
   where
     go : (g : Bool) → strip (41 ∷ []) (cond g (bytes "-" ++ digits (c .line)) (digits (c .line)) ++ s) ≡ none
     go true = unfold strip in refl
-    go false = strip-digits (c .line) s
+    go false = strip-digits 41 (c .line) s (omega arith)
 
 -- the printed controls are none shorter than their number
 spaced-long : (c : Control) (cs : List Control) (r : List ℕ) → length cs < length (spaced (c ∷ cs) ++ 41 ∷ r)

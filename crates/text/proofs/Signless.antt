@@ -28,7 +28,7 @@ use Rattle.text.specs.Judging as now-judged
 use Rattle.text.specs.Judging.{Judged, turned-away, controls, target, belongs, Found, sound, breaks, first, head-rules, or-else}
 use Rattle.text.proofs.Unsigned.{control, some-controls, list, many, mct-body, parse, read, gates, read-all, judge}
 use Rattle.text.proofs.JudgedBy.{judge-lines-by, judge-text-by, rules, judge-lines, judge-text}
-use Rattle.text.proofs.Printed.{none-got, unbind, got-is, strip-sound, target-sound, strip-minus, control-sound, read-only}
+use Rattle.text.proofs.Printed.{none-got, unbind, got-is, strip-sound, target-sound, strip-digits, control-sound, read-only}
 
 -- ---- controls, as they are read now and as they were
 
@@ -69,7 +69,7 @@ is-negated s r e c q f = go (c .0 .negated) refl (control-sound s (c .0) (c .1) 
   where
     go : (n : Bool) → c .0 .negated ≡ n → s ≡ written (c .0) ++ (cond (c .1) 32 41) ∷ q → n ≡ true
     go true p h = refl
-    go false p h = absurd (none-got (sym (strip-minus (c .0 .line) ((cond (c .1) 32 41) ∷ q)) ∙ ap (strip (bytes "-")) (sym (h ∙ unfold written in rw p)) ∙ e))
+    go false p h = absurd (none-got (sym (strip-digits 45 (c .0 .line) ((cond (c .1) 32 41) ∷ q) (omega arith)) ∙ ap (strip (bytes "-")) (sym (h ∙ unfold written in rw p)) ∙ e))
 
 control-told : (s : List ℕ) → Told unsigned (λ c. c .0 .negated ≡ true) (now.control s) (control s)
 control-told s = go (strip (bytes "-") s) refl

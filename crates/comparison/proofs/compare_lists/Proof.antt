@@ -1,6 +1,5 @@
 -- `comparison::compare_lists` meets its contract: where the numbers of lines are equal, the codes decide, as the gates do. Assumes nothing.
 use mathlib.Core.Path.{sym, _∙_}
-use native.Mathlib.Omega.{arith}
 use borrow.Author.Needs.{needs}
 use Rattle.ordering.specs.Comparing.{then, compare-lists}
 use Rattle.ordering.proofs.Gates.{dictionary-gates}

@@ -1,6 +1,6 @@
 -- `console::run` is safe: the text is the part of the buffer that was read. Assumes nothing.
 use borrow.Author.Needs.{needs}
-use Rattle.console.proofs.Front.{fits, part}
+use Rattle.files.proofs.Buffer.{fits, part}
 use Rattle.console.proofs.run.Statement.{statement}
 use Rattle.console.proofs.run.Tie as tie
 

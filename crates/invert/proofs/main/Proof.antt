@@ -1,6 +1,6 @@
 -- `invert::main` is safe: the text is the part of the buffer that was read. Assumes nothing.
 use borrow.Author.Needs.{needs}
-use Rattle.console.proofs.Front.{fits, part}
+use Rattle.files.proofs.Buffer.{fits, part}
 use Rattle.invert.proofs.main.Statement.{statement}
 use Rattle.invert.proofs.main.Tie as tie
 

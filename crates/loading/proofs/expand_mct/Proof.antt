@@ -3,7 +3,7 @@ use borrow.Author.Needs.{needs}
 use native.Mathlib.Omega.{arith}
 use mathlib.Core.Path.{sym}
 use lib.Seq.{length-take-le}
-use Rattle.reading.specs.Seen.{listed}
+use Rattle.gathering.specs.Gathering.{listed}
 use Rattle.loading.proofs.expand_mct.Statement.{statement}
 use Rattle.loading.proofs.expand_mct.Tie as tie
 

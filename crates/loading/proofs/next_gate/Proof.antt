@@ -4,7 +4,7 @@ use mathlib.Core.Path.{refl, sym, ap, _∙_}
 use native.Mathlib.Omega.{arith}
 use denote.Ref.{now}
 use Rattle.text.specs.Judging.{gates}
-use Rattle.loading.specs.Seen.{seen-gate-line}
+use Rattle.judging.specs.Seen.{seen-gate-line}
 use Rattle.loading.proofs.Loading.{circuit-count, refused, room-left, gate-taken}
 use Rattle.loading.proofs.next_gate.Statement.{statement}
 use Rattle.loading.proofs.next_gate.Tie as tie

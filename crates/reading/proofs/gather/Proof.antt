@@ -5,9 +5,11 @@ use native.Mathlib.Omega.{arith}
 use lib.ListN.{length, drop, length-drop}
 use borrow.Author.Needs.{needs}
 use Rattle.text.specs.Reading.{controls}
-use Rattle.reading.specs.declared.Controls.{Controls}
-use Rattle.reading.specs.Seen.{no-lines, no-controls, added, noted, gathered, all-gathered}
-use Rattle.reading.proofs.Gathering.{noted-few, rest, rest-none, rest-last, rest-more}
+use Rattle.gathering.specs.declared.Controls.{Controls}
+use Rattle.gathering.specs.Gathering.{no-lines, no-controls, added, noted, gathered}
+use Rattle.reading.specs.Seen.{all-gathered}
+use Rattle.gathering.proofs.Noting.{noted-few}
+use Rattle.reading.proofs.Gathering.{rest, rest-none, rest-last, rest-more}
 use Rattle.reading.proofs.gather.Statement.{statement}
 use Rattle.reading.proofs.gather.Tie as tie
 

@@ -1,6 +1,7 @@
 -- `reading::listed` meets its contract. Assumes nothing.
 use Rattle.text.specs.Reading.{list}
-use Rattle.reading.specs.Seen.{noted-all, gathered, all-gathered}
+use Rattle.gathering.specs.Gathering.{noted-all, gathered}
+use Rattle.reading.specs.Seen.{all-gathered}
 use borrow.Author.Needs.{needs}
 use Rattle.reading.proofs.listed.Statement.{statement}
 use Rattle.reading.proofs.listed.Tie as tie

@@ -2,8 +2,7 @@
 use mathlib.Core.Path.{_∙_}
 use native.Mathlib.Nat.{le-refl}
 use lib.ListN.{drop}
-use Rattle.reading.proofs.Lines.{control-signed}
-use Rattle.reading.proofs.Places.{control-further}
+use Rattle.reading.proofs.Lines.{control-further, control-signed}
 use borrow.Author.Needs.{needs}
 use Rattle.reading.proofs.one_control.Statement.{statement}
 use Rattle.reading.proofs.one_control.Tie as tie

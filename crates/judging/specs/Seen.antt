@@ -1,0 +1,112 @@
+-- What the answers about a line say, in the terms of text's Judging. Assumes nothing.
+use mathlib.Core.Path.{_≡_}
+use mathlib.Core.List.{List, [], _∷_}
+use Prim.Native.Nat.{ℕ, _+_, _*_, _≤_, _<_}
+use lib.ListN.{length, drop, getD}
+use lib.Dec.{leb, ltb}
+use mathlib.Core.Bool.{Bool, not, _&&_, _||_}
+use Rattle.cascades.specs.declared.Control.{Control}
+use Rattle.cascades.specs.Expansion.{counts}
+use Rattle.gates.specs.declared.Gate.{Gate}
+use Rattle.text.specs.declared.Refusal.{Refusal}
+use Rattle.text.specs.declared.Refusal.the-variants.{Malformed, NoSuchLine, Crossed, Unsorted, TooWide, NoSpare, TooMany}
+use Rattle.text.specs.declared.Head.{Head}
+use Rattle.text.specs.Text.{Form, gate, mct}
+use Rattle.text.specs.Reading.{Got, got, none, parse, cut}
+use Rattle.text.specs.declared.Kind.{Kind}
+use Rattle.text.specs.declared.Kind.the-variants.{Cascade, Circuit}
+use Rattle.text.specs.Judging.{Found, sound, breaks, rule, first, rules, turned-away, judge, judge-lines, read-all}
+use Rattle.gathering.specs.declared.Controls.{Controls}
+use Rattle.gathering.specs.Gathering.{gathered}
+use Rattle.judging.specs.declared.Verdict.{Verdict}
+use Rattle.judging.specs.declared.Verdict.the-variants as verdict
+use Rattle.judging.specs.declared.HeadLine.{HeadLine}
+use Rattle.judging.specs.declared.HeadLine.the-variants as head-line
+use Rattle.judging.specs.declared.GateLine.{GateLine}
+use Rattle.judging.specs.declared.GateLine.the-variants as gate-line
+use Rattle.judging.specs.declared.TargetLine.{TargetLine}
+use Rattle.judging.specs.declared.TargetLine.the-variants as target-line
+
+-- ---- the rules
+
+-- a verdict, as a finding of the rules
+abbrev pub seen-verdict : Verdict → Found
+seen-verdict verdict.Keeps = sound
+seen-verdict (verdict.Breaks r) = breaks r
+
+-- rules 4 to 9, of which 8 is tried before 7, by what is tested: a line is out of range, the target is a control, the controls rise, no line is
+-- spare, there are more than 15 controls, there are too many gates
+abbrev pub tried : Bool → Bool → Bool → Bool → Bool → Bool → Found
+tried outside crossed up spareless wide many =
+    first (rule NoSuchLine outside ∷ rule Crossed crossed ∷ rule Unsorted (not up) ∷ rule NoSpare spareless ∷ rule TooWide wide ∷ rule TooMany many ∷ [])
+
+-- the verdict on a gate, after any circuit c of `before` gates
+abbrev pub GateVerdict : Head → Gate → ℕ → Verdict → Type 0
+GateVerdict h g before r = (c : List Gate) → length c ≡ before → seen-verdict r ≡ first (rules Circuit h before c (gate g))
+
+-- "257th mct, expansion past 4,096 gates with this line", for a gate with k controls, of which so many are negated, by the table of counts;
+-- more than 15 break rule 7
+unfoldable pub over : ℕ → ℕ → ℕ → ℕ → Bool
+over before total k negated = ltb 256 (before + 1) || (leb k 15 && ltb 4096 (total + getD counts k 0 + 2 * negated))
+
+-- the verdict on an mct gate, after `before` mct gates that made any circuit c of `total` gates; of its controls cs there is what was gathered
+abbrev pub MctVerdict : Head → ℕ → Controls → ℕ → ℕ → Verdict → Type 0
+MctVerdict h t a before total r = (cs : List Control) (c : List Gate) → a ≡ gathered cs → length c ≡ total → seen-verdict r ≡ first (rules Cascade h before c (mct cs t))
+
+-- ---- line 1
+
+-- line 1, from a place of the text s on, has the head h and ends at `next`: the judging goes on there, whatever the kind of text
+pub record HasHead (s : List ℕ) (at : ℕ) (h : Head) (next : ℕ) : Type 0 where
+  pub judged : (k : Kind) → judge k (drop at s) ≡ judge-lines k h 0 [] (read-all (cut (drop next s)))
+  pub some : 1 ≤ h .lines
+  pub narrow : h .lines ≤ 32
+  pub ahead : at < next
+  pub inside : next ≤ length s
+
+-- what line 1 was found to be: as above, or the text is turned away
+abbrev pub HeadLineOf : List ℕ → ℕ → HeadLine → Type 0
+HeadLineOf s at (head-line.Head h next) = HasHead s at h next
+HeadLineOf s at (head-line.Refused r l) = (k : Kind) → judge k (drop at s) ≡ turned-away r l
+
+-- ---- a line after line 1
+
+-- the line at the front of a text keeps the rules, and this is its form and what comes after it; or it breaks one
+pub data Judgement : Type 0 where
+  keeps : Form → List ℕ → Judgement
+  fails : Refusal → Judgement
+
+unfoldable pub by-rules : Found → Form → List ℕ → Judgement
+by-rules sound f s = keeps f s
+by-rules (breaks r) f s = fails r
+
+unfoldable pub by-form : Kind → Head → ℕ → List Gate → Got Form → Judgement
+by-form k h before c none = fails Malformed
+by-form k h before c (got f s) = by-rules (first (rules k h before c f)) f s
+
+-- rules 3 to 9, tried on the line at the front of s, after `before` gate lines that made the circuit c
+unfoldable pub judge-line : Kind → Head → ℕ → List Gate → List ℕ → Judgement
+judge-line k h before c s = by-form k h before c (parse s)
+
+-- what a line of a circuit was found to be, in the text s
+abbrev pub seen-gate-line : List ℕ → GateLine → Judgement
+seen-gate-line s (gate-line.Gate g next) = keeps (gate g) (drop next s)
+seen-gate-line s (gate-line.Refused r l) = fails r
+
+-- the place moves forward and stays within the text; a refusal has the line's number, counted from 1
+abbrev pub gate-line-ahead : List ℕ → ℕ → ℕ → GateLine → Type 0
+gate-line-ahead s at before (gate-line.Gate g next) = (at < next) × (next ≤ length s)
+gate-line-ahead s at before (gate-line.Refused r l) = l ≡ before + 2
+
+-- so the line at a place was judged, after any circuit c of `before` gates
+abbrev pub GateLineOf : List ℕ → ℕ → Head → ℕ → GateLine → Type 0
+GateLineOf s at h before r = (c : List Gate) → length c ≡ before → seen-gate-line s r ≡ judge-line Circuit h before c (drop at s)
+
+-- the same of a line of a cascade, of whose controls cs there is what was gathered
+abbrev pub MctLineOf : List ℕ → ℕ → Head → ℕ → ℕ → Controls → TargetLine → Type 0
+MctLineOf s at h before total a (target-line.Target t next) =
+    (cs : List Control) × (a ≡ gathered cs) × ((c : List Gate) → length c ≡ total → keeps (mct cs t) (drop next s) ≡ judge-line Cascade h before c (drop at s))
+MctLineOf s at h before total a (target-line.Refused r l) = (c : List Gate) → length c ≡ total → fails r ≡ judge-line Cascade h before c (drop at s)
+
+abbrev pub mct-line-ahead : List ℕ → ℕ → ℕ → TargetLine → Type 0
+mct-line-ahead s at before (target-line.Target t next) = (at < next) × (next ≤ length s)
+mct-line-ahead s at before (target-line.Refused r l) = l ≡ before + 2
