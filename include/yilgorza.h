@@ -71,33 +71,43 @@ enum {
    to it or greater. */
 enum { YILGORZA_LESS = 0, YILGORZA_EQUAL = 1, YILGORZA_GREATER = 2 };
 
-/* The numbers of a refusal. n is the number of line 1, `(lines n)`, and k the
-   number of controls of an mct, negated ones among them; docs/USING.md of the
-   repository has the forms of the texts. A control with a minus sign directly
+/* The numbers of a refusal. n is the number of line 1, `(lines n)`; docs/USING.md
+   of the repository has the forms of the texts. A control with a minus sign directly
    before it, as in `(mct (-0 1) 2)`, is negated: it is met when its line is 0, any
    other when its line is 1. Numbers 4 to 8 read the lines, whatever the signs.
 
+   A cascade may have `(keep a b ..)` as line 2 of the text, with at least one number
+   and without signs: lines of the circuit that nobody may borrow. A kept line that an
+   mct does not name is no spare line of it, or of any smaller gate that it is made
+   of; so the list has a gate on a kept line only if some mct names it. In a circuit
+   text it is malformed, and the answer of map has none.
+
    Number 1 is tried first, then 2. Then the lines of the text are taken in order,
-   and each is tried against 3, 4, 5, 6, 8, 7 and 9, in this order; the first line
-   that fails is returned. So a line that passes 3 to 6 and has 16 or more controls
-   gets 8 if n = k + 1, and 7 if n is larger. Then comes 10. Of several texts each is
-   tried against 1 to 9, against 2 with the list that is judged with it, before the
-   next one is looked at; then come 11 and the 9 of a join, and 10 is the last. */
+   `(keep ..)` among them, and each is tried against 3, 4, 5, 6, 8, 7 and 9, in this
+   order; the first line that fails is returned. So a line that passes 3 to 6 and has
+   16 or more controls gets 8 if the gate may borrow no line, else 7. Then comes 10. Of
+   several texts each is tried against 1 to 9, against 2 with the list that is judged
+   with it, before the next one is looked at; then come 11 and the 9 of a join, and 10
+   is the last. */
 enum {
     YILGORZA_SUCCESS = 0,
     YILGORZA_OVERLONG = 1,         /* the text has more than 60,000 bytes */
     YILGORZA_SHORT_LIST = 2,       /* the list has fewer than 4,096 records */
     YILGORZA_MALFORMED = 3,        /* a line of the text is not in form, or the text
                                       is empty; a sign is in form only as a minus
-                                      sign directly before a control of an mct */
+                                      sign directly before a control of an mct, and
+                                      `(keep ..)` only as line 2 of a cascade */
     YILGORZA_NO_SUCH_LINE = 4,     /* a number is n or more: the circuit has no such
                                       line; in line 1 of the text, n is not in 1 to
                                       32 */
     YILGORZA_CROSSED = 5,          /* a control equals the target */
-    YILGORZA_UNSORTED = 6,         /* the controls do not strictly rise by line */
-    YILGORZA_TOO_WIDE = 7,         /* more than 15 controls; tried after 8 */
-    YILGORZA_NO_SPARE = 8,         /* three or more controls, and n = k + 1; tried
-                                      before 7 */
+    YILGORZA_UNSORTED = 6,         /* the controls do not strictly rise by line, or
+                                      the numbers of `(keep ..)` do not */
+    YILGORZA_TOO_WIDE = 7,         /* more than 15 controls, negated ones counted;
+                                      tried after 8 */
+    YILGORZA_NO_SPARE = 8,         /* three or more controls, and the gate may borrow
+                                      no line: each of the n is named by it, as
+                                      control or target, or kept; tried before 7 */
     YILGORZA_TOO_MANY = 9,         /* the 257th mct, an expansion past 4,096 gates
                                       with this line, two NOTs for each negated
                                       control counted, or the 4,097th gate of a
@@ -136,6 +146,10 @@ enum {
    numbers 3 to 10 all list_len records are written, those past 4,096 too. */
 
 /* Maps a cascade text to a circuit text.
+
+   A gate with three or more controls borrows lines, which have their old bits again
+   at the end; the lines that the cascade keeps, and the gate does not name, are not
+   among them. The quote goes by the lines that may be borrowed.
 
    With an answer area of length 0, whose pointer may be null, it only quotes: it
    answers as with an area that is long enough, with the same gates and the same

@@ -1,5 +1,5 @@
-"""The jobs on document 01's examples, on negated controls, on spare lines, on inverses
-and on joins, from the module and from the programs.
+"""The jobs on document 01's examples, on negated controls, on spare lines, on kept
+lines, on inverses and on joins, from the module and from the programs.
 
 The environment variable YILGORZA_BIN names the folder of the programs; else it
 is target/bin of the repository.
@@ -23,6 +23,8 @@ from texts import (
     INVERSES,
     JOIN_REFUSALS,
     JOINS,
+    KEPT,
+    KEPT_MAPPED,
     NEGATED,
     PROGRAMS,
     QUOTES,
@@ -104,6 +106,51 @@ class Module(unittest.TestCase):
         self.assertEqual(yilgorza.map(FIVE).text, FIVE_MAPPED)
         example = REPOSITORY / "examples/texts/five.cascade"
         self.assertEqual(example.read_bytes(), FIVE)
+
+    def test_kept_lines(self):
+        circuit = yilgorza.map(KEPT)
+        self.assertEqual(circuit.text, KEPT_MAPPED)
+        self.assertEqual(yilgorza.reduce(KEPT_MAPPED), circuit)
+        example = REPOSITORY / "examples/texts/kept.cascade"
+        self.assertEqual(example.read_bytes(), KEPT)
+        page = (REPOSITORY / "docs/USING.md").read_text("utf-8")
+        shown = page.partition("`kept.cascade` is\n\n")[2].partition("\n\n")[0]
+        self.assertEqual(typed(*[line[4:] for line in shown.splitlines()]), KEPT)
+
+    def test_kept_lines_that_the_gate_names(self):
+        # It is the list without the keep line; on seven lines it borrows line 0.
+        form = "(mct (0 1 2 3 4) 5)"
+        for lines in ("(lines 7)", "(lines 8)"):
+            circuit = yilgorza.map(typed(lines, form))
+            for count in range(1, 7):
+                for kept in itertools.combinations(range(6), count):
+                    keep = f"(keep {' '.join(map(str, kept))})"
+                    given = yilgorza.map(typed(lines, keep, form))
+                    self.assertEqual(given, circuit, kept)
+
+    def test_kept_lines_that_the_gate_does_not_name(self):
+        # Of the unnamed lines some are kept, others not: it is the list on a circuit
+        # that has only the others, which stand in their places.
+        for controls, count in itertools.product(range(3, 8), range(1, 5)):
+            named = list(range(controls + 1))
+            form = f"(mct ({' '.join(map(str, named[:-1]))}) {controls})"
+            lines = f"(lines {controls + 1 + count})"
+            unnamed = range(controls + 1, controls + 1 + count)
+            for left in range(1, count):
+                few = yilgorza.map(typed(f"(lines {controls + 1 + left})", form))
+                for spares in itertools.combinations(unnamed, left):
+                    kept = " ".join(str(line) for line in unnamed if line not in spares)
+                    names = [*named, *spares]
+                    gates = tuple(
+                        Gate(gate.kind, names[gate.control], names[gate.target])
+                        for gate in few.gates
+                    )
+                    given = yilgorza.map(typed(lines, f"(keep {kept})", form))
+                    self.assertEqual(given.gates, gates)
+            all_of_them = " ".join(map(str, unnamed))
+            with self.assertRaises(TurnedAway) as caught:
+                yilgorza.map(typed(lines, f"(keep {all_of_them})", form))
+            self.assertEqual(caught.exception.form, "(turned-away 8 3)")
 
     def test_the_quote_of_a_gate_goes_by_how_many_lines_are_unnamed(self):
         # Whichever they are: five controls, and one line unnamed or two.
@@ -404,6 +451,7 @@ class Programs(unittest.TestCase):
     def test_map_and_quote(self):
         self.assertEqual(self.written("map", TOFFOLI), TOFFOLI_MAPPED)
         self.assertEqual(self.written("map", FIVE), FIVE_MAPPED)
+        self.assertEqual(self.written("map", KEPT), KEPT_MAPPED)
         for text, count in QUOTES:
             with self.subTest(text):
                 self.assertEqual(

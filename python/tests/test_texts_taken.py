@@ -137,6 +137,15 @@ class Taken(unittest.TestCase):
                 self.assertEqual(caught.exception.form, "(turned-away 3 2)", hex(code))
         self.assertEqual(yilgorza.quote("(lines 3)\n(mct (-0 1) 2)\n").count, 7)
 
+    def test_every_character_but_a_digit_in_a_keep_line(self):
+        # A minus sign among them: a kept line has no sign.
+        for code in [*range(0x80), *range(0x80, 0x110000, 977)]:
+            if chr(code) not in "123456789":
+                with self.assertRaises(TurnedAway) as caught:
+                    yilgorza.quote(f"(lines 32)\n(keep {chr(code)}0)\n")
+                self.assertEqual(caught.exception.form, "(turned-away 3 2)", hex(code))
+        self.assertEqual(yilgorza.quote("(lines 32)\n(keep 0 10)\n").count, 0)
+
     def test_a_length_is_counted_in_bytes(self):
         for text, number in (
             ("x" * 60000, Number.MALFORMED),

@@ -278,7 +278,7 @@ class Documentation(unittest.TestCase):
 
     def test_examples_of_the_page(self):
         page = str(REPOSITORY / "python/README.md")
-        self.assertEqual(doctest.testfile(page, module_relative=False), (0, 30))
+        self.assertEqual(doctest.testfile(page, module_relative=False), (0, 33))
 
 
 if __name__ == "__main__":

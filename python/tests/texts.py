@@ -68,6 +68,26 @@ FIVE_MAPPED = typed(
     "(cn 2 7)",
     "(vp 7 6)",
 )
+# Three controls, and the lines 4 and 5 unnamed: 4 is kept, so the gate borrows 5. The
+# list is the reduced one of the expansion with this spare line, by hand.
+KEPT = typed("(lines 6)", "(keep 4)", "(mct (0 1 2) 3)")
+KEPT_MAPPED = typed(
+    "(lines 6)",
+    "(v 5 3)",
+    "(cn 0 5)",
+    "(vp 5 3)",
+    "(v 1 5)",
+    "(v 2 5)",
+    "(cn 1 2)",
+    "(vp 2 5)",
+    "(v 5 3)",
+    "(cn 0 5)",
+    "(vp 5 3)",
+    "(vp 1 5)",
+    "(v 2 5)",
+    "(cn 1 2)",
+    "(vp 2 5)",
+)
 WIDE = "(mct (0 1 2 3 4 5 6 7 8 9 10 11 12 13 14) 15)"
 # The same gate with one, two and three controls negated.
 WIDE_1 = WIDE.replace(" 14)", " -14)")
@@ -133,9 +153,28 @@ SPARES = [
     (typed("(lines 17)", WIDE_3), 256),
 ]
 
+# Cascades with kept lines, and their quotes: a kept line that the gate does not name is
+# no spare line, and one that it names may be borrowed by the smaller gates.
+KEPT_LINES = [
+    (KEPT, 14),
+    (typed("(lines 7)", "(keep 0)", "(mct (0 1 2 3 4) 5)"), 42),
+    (typed("(lines 8)", "(keep 6)", "(mct (0 1 2 3 4) 5)"), 42),
+    (typed("(lines 8)", "(keep 7)", "(mct (0 1 2 3 4) 5)"), 42),
+    (typed("(lines 9)", "(keep 6)", "(mct (0 1 2 3 4) 5)"), 32),
+    (typed("(lines 8)", "(keep 0 1 2 3 4 5)", "(mct (0 1 2 3 4) 5)"), 32),
+    (typed("(lines 13)", "(keep 12)", "(mct (0 1 2 3 4 5 6 7 8 9) 10)"), 130),
+    (typed("(lines 6)", "(keep 0 4)", "(mct (-0 1 2) 3)"), 16),
+    # Two controls borrow nothing.
+    (typed("(lines 3)", "(keep 0 1 2)", "(mct (0 1) 2)"), 5),
+    (typed("(lines 3)", "(keep 0 1 2)"), 0),
+    (typed("(lines 1)", "(keep 0)", "(mct () 0)"), 1),
+    (typed("(lines 3)", "(keep 2)", *["(mct (0) 1)"] * 256), 0),
+]
+
 # Cascades and their quotes.
 QUOTES = [
     *SPARES,
+    *KEPT_LINES,
     (TOFFOLI, 5),
     (typed("(lines 3)", "(mct (0 1) 2)", "(mct (0 1) 2)"), 9),
     (typed("(lines 5)", "(mct (0 1 2) 3)"), 14),
@@ -294,6 +333,10 @@ CIRCUIT_REFUSALS = [
     (typed("(lines 2)", "(cn -0 1)"), Number.MALFORMED, 2),
     (typed("(lines 2)", "(v 0 -1)"), Number.MALFORMED, 2),
     (typed("(lines 2)", "(not 1)", "(not -0)"), Number.MALFORMED, 3),
+    # Nor has it a keep line.
+    (typed("(lines 2)", "(keep 0)"), Number.MALFORMED, 2),
+    (typed("(lines 2)", "(keep 2)"), Number.MALFORMED, 2),
+    (typed("(lines 2)", "(not 1)", "(keep 0)"), Number.MALFORMED, 3),
 ]
 
 # Pairs of circuits that join turns away though each passes by itself, with number,
@@ -376,4 +419,44 @@ REFUSALS = [
     (typed("(lines 18)", SIXTEEN_NEGATED), Number.TOO_WIDE, 2),
     (typed("(lines 17)", WIDE_3, *[WIDE] * 10), Number.TOO_MANY, 12),
     (typed("(lines 17)", *[WIDE] * 9, WIDE_1, WIDE_2), Number.TOO_MANY, 12),
+    # No line is left that is unnamed and unkept; rule 8 is tried before 7.
+    (typed("(lines 5)", "(keep 4)", "(mct (0 1 2) 3)"), Number.NO_SPARE, 3),
+    (typed("(lines 5)", "(keep 0 4)", "(mct (0 1 2) 3)"), Number.NO_SPARE, 3),
+    (typed("(lines 5)", "(keep 4)", "(mct (-0 1 -2) 3)"), Number.NO_SPARE, 3),
+    (typed("(lines 4)", "(keep 0)", "(mct (0 1 2) 3)"), Number.NO_SPARE, 3),
+    (typed("(lines 8)", "(keep 6 7)", "(mct (0 1 2 3 4) 5)"), Number.NO_SPARE, 3),
+    (typed("(lines 18)", "(keep 17)", SIXTEEN), Number.NO_SPARE, 3),
+    (typed("(lines 19)", "(keep 17)", SIXTEEN), Number.TOO_WIDE, 3),
+    # The keep line itself: rules 3, 4 and 6, in this order.
+    *[
+        (typed("(lines 3)", form, "(mct (0) 0)"), Number.MALFORMED, 2)
+        for form in (
+            "(keep)",
+            "(keep )",
+            "(keep  0)",
+            "(keep 0 )",
+            "(keep 0  1)",
+            "(keep -1)",
+            "(keep 0 -1)",
+            "(keep 01)",
+            "(keep 100)",
+            "(keep (0))",
+            "(keep 0",
+            "(Keep 0)",
+            "(kept 0)",
+        )
+    ],
+    (typed("(lines 3)", "(keep 3)"), Number.NO_SUCH_LINE, 2),
+    (typed("(lines 3)", "(keep 3 0)", "(mct (0) 0)"), Number.NO_SUCH_LINE, 2),
+    (typed("(lines 3)", "(keep 1 0)", "(mct (0) 0)"), Number.UNSORTED, 2),
+    (typed("(lines 3)", "(keep 1 1)"), Number.UNSORTED, 2),
+    # It stands on line 2 and nowhere else, and the lines after it are counted with it.
+    (typed("(keep 0)", "(lines 3)"), Number.MALFORMED, 1),
+    (typed("(lines 33)", "(keep 0)"), Number.NO_SUCH_LINE, 1),
+    (typed("(lines 3)", "(keep 0)", "(keep 1)"), Number.MALFORMED, 3),
+    (typed("(lines 3)", "(mct () 0)", "(keep 1)"), Number.MALFORMED, 3),
+    (b"(lines 3)\n(keep 0)", Number.MALFORMED, 2),
+    (typed("(lines 3)", "(keep 0)", "(mct (0) 0)"), Number.CROSSED, 3),
+    (typed("(lines 3)", "(keep 2)", *["(mct (0) 1)"] * 257), Number.TOO_MANY, 259),
+    (typed("(lines 17)", "(keep 0)", *[WIDE] * 12), Number.TOO_MANY, 14),
 ]

@@ -7,7 +7,9 @@
    has to give. The inverse of the inverse has to be what reduce gives, and a text
    joined with its inverse has no gates. A cascade with minus signs is also given without
    them, and with a gate without controls for each NOT that they stand for. What rules 4
-   to 8 say of each line of a cascade is worked out here too.
+   to 8 say of each line of a cascade is worked out here too. A cascade with a keep line is
+   also given without it; what map gives for it touches no kept line that no mct names, and
+   as a circuit it is malformed.
 
    Memory. The archive is plain machine code, in which AddressSanitizer checks
    nothing but the memory functions of the C library. So the areas stand
@@ -72,6 +74,9 @@ static void fail(enum call call, const char *what)
 static unsigned long signed_cascades;
 /* How many cascades were refused at a gate of 16 or more controls, by 8 and by 7. */
 static unsigned long wide_no_spare, wide_with_spare;
+/* How many cascades with a keep line were accepted, how many were refused by 8 that have
+   an unnamed line, and how many keep lines were refused by 4 and by 6. */
+static unsigned long kept_cascades, kept_no_spare, keeps_refused;
 /* How many circuits with gates were inverted, how many pairs with gates in both were
    joined, and how many joins were refused by 11 and by a 9 of their own. */
 static unsigned long inverted, joined, joins_of_other_lines, joins_over;
@@ -127,6 +132,8 @@ static void tell_blocks(void)
     fprintf(stderr, "fuzz: %lu cascades with a minus sign accepted\n", signed_cascades);
     fprintf(stderr, "fuzz: %lu cascades refused by 8 at 16 or more controls, %lu by 7\n", wide_no_spare,
             wide_with_spare);
+    fprintf(stderr, "fuzz: %lu cascades with a keep line accepted, %lu refused by 8 for it, %lu by 4 or 6 at it\n",
+            kept_cascades, kept_no_spare, keeps_refused);
     fprintf(stderr, "fuzz: %lu circuits inverted, %lu pairs joined, %lu refused by 11, %lu by 9 together\n", inverted,
             joined, joins_of_other_lines, joins_over);
 }
@@ -419,12 +426,20 @@ static int is_digit(uint8_t byte)
     return byte >= '0' && byte <= '9';
 }
 
-/* What these rules say of an mct line in form, 8 before 7, or 0; and its number of
-   controls. No number has three digits. */
-static uint64_t refused_by(const uint8_t *line, size_t size, unsigned lines, unsigned *controls)
+/* All lines of a circuit, a bit for each. */
+static uint32_t all_lines(unsigned lines)
+{
+    return lines < 32 ? (1u << lines) - 1 : ~0u;
+}
+
+/* What these rules say of an mct line in form, 8 before 7, or 0; its number of controls,
+   and the lines that it names. No number has three digits. */
+static uint64_t refused_by(const uint8_t *line, size_t size, unsigned lines, uint32_t kept, unsigned *controls,
+                           uint32_t *named)
 {
     int is_control[100] = { 0 }, inside = 1, foreign = 0, crossed = 0, unsorted = 0;
     unsigned before = 0, k = 0;
+    *named = 0;
     for (size_t i = 0; i < size; i++) {
         inside &= line[i] != ')';
         if (!is_digit(line[i]))
@@ -433,6 +448,7 @@ static uint64_t refused_by(const uint8_t *line, size_t size, unsigned lines, uns
         if (i + 1 < size && is_digit(line[i + 1]))
             number = 10 * number + line[++i] - '0';
         foreign |= number >= lines;
+        *named |= number < 32 ? 1u << number : 0;
         if (inside) {
             unsorted |= k && number <= before;
             is_control[number] = 1;
@@ -443,35 +459,168 @@ static uint64_t refused_by(const uint8_t *line, size_t size, unsigned lines, uns
         }
     }
     *controls = k;
-    return foreign ? 4 : crossed ? 5 : unsorted ? 6 : k >= 3 && lines == k + 1 ? 8 : k > 15 ? 7 : 0;
+    int no_spare = !(all_lines(lines) & ~*named & ~kept);
+    return foreign ? 4 : crossed ? 5 : unsorted ? 6 : k >= 3 && no_spare ? 8 : k > 15 ? 7 : 0;
+}
+
+static int begins_like_a_keep_line(const uint8_t *line, size_t length)
+{
+    return length >= strlen("(keep") && !memcmp(line, "(keep", strlen("(keep"));
+}
+
+/* The numbers of the keep line that was read last. */
+static uint8_t numbers[LONGEST_TEXT];
+
+/* Reads the numbers of a keep line in form, with its end, and gives how many there are; 0
+   if the line is no such line. */
+static size_t read_keep(const uint8_t *line, size_t size)
+{
+    size_t place = strlen("(keep"), count = 0;
+    if (!begins_like_a_keep_line(line, size))
+        return 0;
+    while (place + 1 < size && line[place] == ' ' && is_digit(line[place + 1])) {
+        unsigned number = line[place + 1] - '0';
+        place += 2;
+        if (number && place < size && is_digit(line[place]))
+            number = 10 * number + line[place++] - '0';
+        numbers[count++] = (uint8_t)number;
+    }
+    return size - place == 2 && !memcmp(line + place, ")\n", 2) ? count : 0;
+}
+
+/* What rules 4 and 6 say of so many numbers that were read, or 0; and the kept lines. */
+static uint64_t keep_refused_by(size_t count, unsigned lines, uint32_t *kept)
+{
+    int foreign = 0, unsorted = 0;
+    for (size_t i = 0; i < count; i++) {
+        foreign |= numbers[i] >= lines;
+        unsorted |= i && numbers[i] <= numbers[i - 1];
+        *kept |= numbers[i] < 32 ? 1u << numbers[i] : 0;
+    }
+    return foreign ? 4 : unsorted ? 6 : 0;
+}
+
+/* What is found of a cascade: its kept lines, and the lines that all its gates name, and
+   any. */
+struct lines {
+    uint32_t kept, named_by_all, named_by_any;
+};
+
+/* Checks a line of a cascade, with its end, that is not refused by 3. Gives what rules 4 to
+   8 say of it. */
+static uint64_t rules_of(const uint8_t *line, size_t size, uint64_t place, unsigned lines, struct lines *found)
+{
+    unsigned controls;
+    uint32_t named;
+    size_t count = place == 2 ? read_keep(line, size) : 0;
+    if (count) {
+        uint64_t due = keep_refused_by(count, lines, &found->kept);
+        keeps_refused += due != 0;
+        return due;
+    }
+    if (begins_like_a_keep_line(line, size))
+        fail(MAP, "a keep line that is not in form, or not on line 2");
+    uint64_t due = refused_by(line, size, lines, found->kept, &controls, &named);
+    wide_no_spare += due == 8 && controls > 15;
+    wide_with_spare += due == 7;
+    kept_no_spare += due == 8 && (all_lines(lines) & ~named);
+    found->named_by_all &= named;
+    found->named_by_any |= named;
+    return due;
 }
 
 /* Checks the lines of a cascade up to the one that is refused. They are in form, but for
    that one if it is refused by 3; rule 9 comes last. */
-static void check_rules(const uint8_t *text, size_t length, const struct answer *mapped)
+static void check_rules(const uint8_t *text, size_t length, const struct answer *mapped, struct lines *found)
 {
     uint64_t number = mapped->number, last = mapped->line, line = 2;
+    *found = (struct lines){ 0, ~0u, 0 };
     if (last == 1 && number > 4)
         fail(MAP, "line 1 is refused like a gate");
     if (number == 1 || number == 2 || last == 1)
         return;
-    unsigned lines = lines_of(text), controls;
+    unsigned lines = lines_of(text);
     size_t start = length_of(text, 1), size;
     for (; start < length && (!last || line <= last); start += size, line++) {
-        if (line == last && number == 3)
-            return;
         const uint8_t *end = memchr(text + start, '\n', length - start);
+        size = end ? (size_t)(end - text) + 1 - start : length - start;
+        if (line == last && number == 3) {
+            if (line == 2 && read_keep(text + start, size))
+                fail(MAP, "a keep line in form is malformed");
+            return;
+        }
         if (!end)
             fail(MAP, "a line without its end");
-        size = (size_t)(end - text) + 1 - start;
-        uint64_t due = refused_by(text + start, size, lines, &controls);
+        uint64_t due = rules_of(text + start, size, line, lines, found);
         if (due != (line == last && number < 9 ? number : 0))
             fail(MAP, "rules 4 to 8");
-        wide_no_spare += due == 8 && controls > 15;
-        wide_with_spare += due == 7;
     }
     if (last && line <= last)
         fail(MAP, "a refused line that is not there");
+}
+
+/* ---- Keep lines ---- */
+
+/* Whether line 2 of a text begins like a keep line. */
+static int has_keep(const uint8_t *text, size_t length)
+{
+    const uint8_t *end = length ? memchr(text, '\n', length) : NULL;
+    return end && begins_like_a_keep_line(end + 1, length - (size_t)(end + 1 - text));
+}
+
+/* Checks that a text with a keep line is no circuit. */
+static void check_no_circuit(enum call job, const struct answer *answer)
+{
+    int earlier = answer->number == 1 || answer->number == 2 || answer->line == 1;
+    if (!earlier && !(answer->number == 3 && answer->line == 2))
+        fail(job, "a circuit with a keep line");
+}
+
+/* The lines that the gates of a list touch. */
+static uint32_t touched_by(const struct answer *answer)
+{
+    uint32_t touched = 0;
+    for (uint64_t i = 0; i < answer->gates; i++) {
+        unsigned slot = answer->list[i] / 4 % 33, target = answer->list[i] / 132;
+        touched |= 1u << target | (slot ? 1u << (slot - 1) : 0);
+    }
+    return touched;
+}
+
+/* Checks a cascade with a keep line against what map gives for it without that line, both
+   with an empty area, unless a second one comes to its place. The keep line is refused by
+   3, 4 and 6 alone. It refuses by 8 what has a spare without it, and changes no other
+   refusal but for the line. Kept lines that all gates name change nothing. */
+static void check_kept(const uint8_t *text, size_t length, size_t list_length, int at_front, uint8_t junk,
+                       const struct answer *mapped, const struct lines *found)
+{
+    static uint8_t other[LONGEST_TEXT];
+    static struct answer again;
+    uint64_t number = mapped->number, line = mapped->line;
+    if (line == 2 && number != 3 && number != 4 && number != 6)
+        fail(MAP, "a keep line is refused like a gate");
+    if (number && line <= 2)
+        return;
+    size_t head = length_of(text, 1), rest = length_of(text, 2);
+    memcpy(other, text, head);
+    memcpy(other + head, text + rest, length - rest);
+    size_t other_length = head + length - rest;
+    if (has_keep(other, other_length))
+        return;
+    run(MAP, other, other_length, list_length, 0, at_front, junk, &again);
+    if (!number && again.number)
+        fail(MAP, "refused for the want of a keep line");
+    if (number == 8 && again.number && again.line < line - 1)
+        fail(MAP, "an earlier line is refused for the want of a keep line");
+    if (number && number != 8 && (again.number != number || again.line != line - 1))
+        fail(MAP, "a keep line changes a refusal");
+    if (number)
+        return;
+    kept_cascades++;
+    if (touched_by(mapped) & found->kept & ~found->named_by_any)
+        fail(MAP, "a kept line that no gate names is touched");
+    if (!(found->kept & ~found->named_by_all) && !same_list(&again, mapped))
+        fail(MAP, "kept lines that all gates name change the list");
 }
 
 /* ---- Minus signs ---- */
@@ -564,7 +713,8 @@ static void check_signs(const uint8_t *text, size_t length, size_t list_length, 
     size_t lines = 0;
     for (size_t i = 0; i < other_length; i++)
         lines += other[i] == '\n';
-    if (other_length > LONGEST_TEXT || (!number && lines > 1 + MOST_MCTS))
+    size_t heads = has_keep(text, length) ? 2 : 1;
+    if (other_length > LONGEST_TEXT || (!number && lines > heads + MOST_MCTS))
         return;
     run(MAP, other, other_length, list_length, 0, at_front, junk, &again);
     if (again.number != number)
@@ -874,10 +1024,14 @@ static void jobs_over_one_text(const uint8_t *choices, const uint8_t *text, size
     static const enum call jobs[] = { MAP, REDUCE, INVERT };
     static struct answer answers[CALLS], empty, again;
     const struct answer *mapped = &answers[MAP];
+    struct lines found;
+    int keeps = has_keep(text, length);
     for (size_t which = 0; which < sizeof jobs / sizeof *jobs; which++) {
         enum call job = jobs[which];
         size_t answer_length = (choices[1] & 3) == 3 ? choices[2] : AMPLE;
         run(job, text, length, list_length, answer_length, at_front, junk, &answers[job]);
+        if (job != MAP && keeps)
+            check_no_circuit(job, &answers[job]);
         size_t written = answers[job].bytes;
         if (!written)
             continue;
@@ -909,7 +1063,9 @@ static void jobs_over_one_text(const uint8_t *choices, const uint8_t *text, size
         fail(MAP_EMPTY_AREA, "with an area it refuses otherwise");
     if (mapped->number == 0 && !same_list(mapped, &empty))
         fail(MAP_EMPTY_AREA, "with an area it gives another list");
-    check_rules(text, length, &empty);
+    check_rules(text, length, &empty, &found);
+    if (keeps)
+        check_kept(text, length, list_length, at_front, junk, &empty, &found);
     if (has_sign(text, length))
         check_signs(text, length, list_length, at_front, junk, &empty);
 }
@@ -964,6 +1120,7 @@ int LLVMFuzzerTestOneInput(const uint8_t *data, size_t size)
 
 /* The corpus has more of them than that. */
 enum { FEWEST_SIGNED = 5, FEWEST_WIDE = 3, FEWEST_INVERTED = 20, FEWEST_JOINED = 40, FEWEST_REFUSED = 4 };
+enum { FEWEST_KEPT = 10, FEWEST_KEPT_REFUSED = 2 };
 
 int main(int argc, char **argv)
 {
@@ -985,6 +1142,11 @@ int main(int argc, char **argv)
     if (wide_no_spare < FEWEST_WIDE || wide_with_spare < FEWEST_WIDE) {
         fprintf(stderr, "fuzz: FAILED: only %lu and %lu cascades were refused at 16 or more controls\n",
                 wide_no_spare, wide_with_spare);
+        return 1;
+    }
+    if (kept_cascades < FEWEST_KEPT || kept_no_spare < FEWEST_KEPT_REFUSED || keeps_refused < FEWEST_KEPT_REFUSED) {
+        fprintf(stderr, "fuzz: FAILED: only %lu cascades with a keep line were accepted, %lu refused by 8, %lu by 4 or 6\n",
+                kept_cascades, kept_no_spare, keeps_refused);
         return 1;
     }
     if (inverted < FEWEST_INVERTED || joined < FEWEST_JOINED || joins_of_other_lines < FEWEST_REFUSED

@@ -24,7 +24,7 @@ struct text {
     size_t gates, read;
 };
 
-enum { TEXTS = 36 };
+enum { TEXTS = 42 };
 static struct text texts[TEXTS];
 
 static void add(struct text *t, const char *words) {
@@ -61,8 +61,8 @@ static struct text *circuit(int i, const char *name, int place, size_t gates) {
     return t;
 }
 
-/* The longest work of each job, every refusal of a text, circuits to compare, and
-   document 01's cascades with their quotes. */
+/* The longest work of each job, every refusal of a text, circuits to compare,
+   document 01's cascades with their quotes, and kept lines. */
 static void make_texts(void) {
     static const char wide[] = "(mct (0 1 2 3 4 5 6 7 8 9 10 11 12 13 14) 15)\n";
     struct text *t;
@@ -168,6 +168,22 @@ static void make_texts(void) {
     add(t, "(lines 32)\n");
     for (i = 0; i < 2048; i++)
         add(t, i % 2 ? "(v 30 31)\n" : "(v 31 30)\n");
+    /* Kept lines. One that the gate does not name is no spare line: the gate has line 5
+       left, and on five lines none. */
+    add(cascade(36, "a gate of three controls, and a kept line", 14),
+        "(lines 6)\n(keep 4)\n(mct (0 1 2) 3)\n");
+    add(text(37, "the only unnamed line kept", 8, 3, 3, 2),
+        "(lines 5)\n(keep 4)\n(mct (0 1 2) 3)\n");
+    add(text(38, "kept lines that fall", 6, 2, 3, 2), "(lines 3)\n(keep 1 0)\n");
+    add(text(39, "a kept line that the circuit has not", 4, 2, 3, 2),
+        "(lines 3)\n(keep 3)\n");
+    add(text(40, "a keep line in a circuit", 3, 3, 3, 2),
+        "(lines 2)\n(keep 0)\n(cn 0 1)\n");
+    /* Only line 16 is left to borrow, as it is in 0. */
+    t = cascade(41, "eleven gates of 15 controls, 16 lines kept", 2750);
+    add(t, "(lines 32)\n(keep 0 17 18 19 20 21 22 23 24 25 26 27 28 29 30 31)\n");
+    for (i = 0; i < 11; i++)
+        add(t, wide);
 
     for (t = texts; t < texts + TEXTS; t++)
         if (t->reduced[0] == 0) {

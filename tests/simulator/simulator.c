@@ -15,6 +15,10 @@
    kind. On more than eight lines they are run from some starts only, a third of
    them with all controls of the first gate met, a third with all but one.
 
+   And cascades like the first ones, but short, with a gate that needs a spare and with
+   kept lines: any that leave each gate a spare. No gate of the circuit may touch a kept
+   line that no mct names.
+
    A controlled V is a Hadamard gate on the target, a conditional phase kick of
    pi/2 (V+: -pi/2) and a Hadamard gate again: with the phase kick diag(1, i)
    between them the two Hadamard gates give half of [[1+i, 1-i], [1-i, 1+i]].
@@ -41,6 +45,9 @@ enum { FEWEST_MOVED = 3000, FEWEST_ORDERED = 120 };
 enum { FEWEST_CONTROLS = 5, MOST_CONTROLS = 9, MOST_UNNAMED = 4, WIDE_CASCADES = 57 };
 /* Cascades with a negated control, and cascades with controls of which none is. */
 enum { FEWEST_NEGATED = 500, FEWEST_PLAIN = 280 };
+/* Cascades with kept lines; of these with one that no mct names, with one that some mct
+   names, and with one that a gate would take as its spare if it were not kept. */
+enum { KEPT_CASCADES = 240, FEWEST_UNNAMED = 50, FEWEST_NAMED = 200, FEWEST_TAKEN = 45 };
 static const double TOLERANCE = 1e-3;
 
 enum word { NOT, CN, V, VP };
@@ -63,6 +70,7 @@ struct mct {
 
 struct cascade {
     int lines, count;
+    unsigned kept; /* one bit a line */
     struct mct mcts[MOST_MCTS];
 };
 
@@ -81,6 +89,7 @@ static void random_cascade(struct cascade *cascade, enum signs signs)
     int wide = below(12) == 0;
     int lines = wide ? 7 + below(2) : 1 + below(USUAL_LINES);
     cascade->lines = lines;
+    cascade->kept = 0;
     cascade->count = wide ? 1 : below(9);
     for (int i = 0; i < cascade->count; i++) {
         struct mct *mct = &cascade->mcts[i];
@@ -99,6 +108,7 @@ static void random_cascade(struct cascade *cascade, enum signs signs)
 static void wide_cascade(struct cascade *cascade, int lines, int k, enum signs signs)
 {
     cascade->lines = lines;
+    cascade->kept = 0;
     cascade->count = 1 + below(2);
     for (int i = 0; i < cascade->count; i++) {
         struct mct *mct = &cascade->mcts[i];
@@ -109,6 +119,59 @@ static void wide_cascade(struct cascade *cascade, int lines, int k, enum signs s
         unsigned chosen = signs == ANY ? (unsigned)below(1 << lines) : signs == ALL ? ~0u : 0;
         mct->negated = mct->controls & chosen;
     }
+}
+
+/* The lines that a gate does not name. */
+static unsigned unnamed_by(const struct mct *mct, int lines)
+{
+    return ((1u << lines) - 1) & ~mct->controls & ~(1u << mct->target);
+}
+
+static unsigned named_by_any(const struct cascade *cascade)
+{
+    unsigned named = 0;
+    for (int i = 0; i < cascade->count; i++)
+        named |= cascade->mcts[i].controls | 1u << cascade->mcts[i].target;
+    return named;
+}
+
+static int needs_a_spare(const struct mct *mct)
+{
+    return __builtin_popcount(mct->controls) >= 3;
+}
+
+/* Keeps any lines that leave a spare to each gate that needs one. Gives whether there are
+   such lines and such a gate. */
+static int keep_some(struct cascade *cascade)
+{
+    int needed = 0;
+    cascade->kept = (unsigned)below(1 << cascade->lines) | (unsigned)below(1 << cascade->lines);
+    for (int i = 0; i < cascade->count; i++) {
+        const struct mct *mct = &cascade->mcts[i];
+        unsigned unnamed = unnamed_by(mct, cascade->lines);
+        needed |= needs_a_spare(mct);
+        if (needs_a_spare(mct) && !(unnamed & ~cascade->kept)) {
+            int line;
+            do
+                line = below(cascade->lines);
+            while (!(unnamed >> line & 1));
+            cascade->kept &= ~(1u << line);
+        }
+    }
+    return needed && cascade->kept;
+}
+
+/* Whether a gate would take as its spare, the lowest of its unnamed lines, one that is
+   kept. */
+static int keeps_a_spare(const struct cascade *cascade)
+{
+    for (int i = 0; i < cascade->count; i++) {
+        const struct mct *mct = &cascade->mcts[i];
+        unsigned unnamed = unnamed_by(mct, cascade->lines);
+        if (needs_a_spare(mct) && (unnamed & -unnamed & cascade->kept))
+            return 1;
+    }
+    return 0;
 }
 
 /* A circuit of fewer gates than `most`. */
@@ -144,6 +207,13 @@ static void random_circuit(struct circuit *circuit, int lines, int most)
 static void write_cascade(FILE *file, const struct cascade *cascade)
 {
     fprintf(file, "(lines %d)\n", cascade->lines);
+    if (cascade->kept) {
+        fprintf(file, "(keep");
+        for (int line = 0; line < cascade->lines; line++)
+            if (cascade->kept >> line & 1)
+                fprintf(file, " %d", line);
+        fprintf(file, ")\n");
+    }
     for (int i = 0; i < cascade->count; i++) {
         const char *space = "";
         fprintf(file, "(mct (");
@@ -274,6 +344,7 @@ static unsigned run_cascade(const struct cascade *cascade, unsigned pattern)
 static struct cascade cascade;
 static struct circuit circuit, answer, second, whole;
 static long passed, failed, starts, flips, negated, plain, moved, ordered;
+static long with_unnamed, with_named, with_spare_kept;
 
 static void count(int good, const char *what, const char *file)
 {
@@ -301,6 +372,17 @@ static void count_signs(void)
     }
     negated += any_negated != 0;
     plain += any_control != 0 && any_negated == 0;
+}
+
+/* Whether no gate of the answer touches a kept line that no mct names. */
+static int leaves_kept_lines(void)
+{
+    unsigned alone = cascade.kept & ~named_by_any(&cascade), touched = 0;
+    for (int i = 0; i < answer.count; i++) {
+        const struct gate *gate = &answer.gates[i];
+        touched |= 1u << gate->target | (gate->word == NOT ? 0 : 1u << gate->control);
+    }
+    return !(touched & alone);
 }
 
 /* The start of this number: all of them in turn where there are few lines. */
@@ -332,7 +414,8 @@ static void one_case(int is_cascade, const char *directory, const char *file)
     write_file(file, is_cascade ? &cascade : NULL, &circuit);
     const char *program = is_cascade ? "map" : "reduce";
     int lines = is_cascade ? cascade.lines : circuit.lines;
-    int good = run(directory, program, file, NULL, &answer) && answer.lines == lines;
+    int good = run(directory, program, file, NULL, &answer) && answer.lines == lines
+        && (!is_cascade || leaves_kept_lines());
     unsigned count_of_starts = lines <= ALL_STARTS_LINES ? 1u << lines : SOME_STARTS;
     for (unsigned which = 0; good && which < count_of_starts; which++, starts++) {
         unsigned start = chosen_start(lines, which);
@@ -364,6 +447,30 @@ static int wide_cases(const char *directory, const char *file)
             }
         }
     return cases;
+}
+
+/* Short cascades with kept lines, a third each without signs, with any and with all. */
+static void kept_cases(const char *directory, const char *file)
+{
+    starts = 0;
+    for (int i = 0; i < KEPT_CASCADES; i++) {
+        do {
+            random_cascade(&cascade, (enum signs)(i % 3));
+            cascade.count = cascade.count > 3 ? 1 + below(3) : cascade.count;
+        } while (!keep_some(&cascade));
+        unsigned named = named_by_any(&cascade);
+        with_unnamed += (cascade.kept & ~named) != 0;
+        with_named += (cascade.kept & named) != 0;
+        with_spare_kept += keeps_a_spare(&cascade);
+        one_case(1, directory, file);
+    }
+    printf("simulator: map: %d cascades with kept lines, %ld with one that no mct names, %ld with one that some names, "
+           "%ld with a spare kept, %ld starts\n",
+           KEPT_CASCADES, with_unnamed, with_named, with_spare_kept, starts);
+    if (with_unnamed < FEWEST_UNNAMED || with_named < FEWEST_NAMED || with_spare_kept < FEWEST_TAKEN) {
+        printf("simulator: FAILED: too few cascades with kept lines of one kind\n");
+        failed++;
+    }
 }
 
 /* One circuit and then another, which have the same lines. */
@@ -490,6 +597,7 @@ int main(int argc, char **argv)
     }
     printf("simulator: reduce: %d circuits, %ld starts\n", CIRCUITS, starts);
     inverses_and_joins(argv[1], file, other);
+    kept_cases(argv[1], file);
     printf("%ld passed, %ld failed\n", passed, failed);
     return passed > 0 && failed == 0 ? 0 : 1;
 }

@@ -79,6 +79,7 @@ counted k h = eqb→eq (size (suc k) k) (getD counts k 0) (at (λ i x. eqb (size
 pub expands-count : (n : ℕ) {cs : List ℕ} {t : ℕ} {c : List Gate} → Expands n cs t c → length cs ≤ 15 → length c ≡ getD counts (length cs) 0
 expands-count n {cs} e h = expands-size (suc (length cs)) n (omega arith) e ∙ counted (length cs) h
 
-pub expansion-count : (n : ℕ) (cs : List ℕ) (t : ℕ) → length cs ≤ 15 → length (expansion n cs t) ≡ getD counts (length cs) 0
+-- whichever lines are kept
+pub expansion-count : (n : ℕ) (kept cs : List ℕ) (t : ℕ) → length cs ≤ 15 → length (expansion n kept cs t) ≡ getD counts (length cs) 0
 unfolding expansion
-expansion-count n cs t h = expand-with-size (mct-spares n cs t) cs t ∙ counted (length cs) h
+expansion-count n kept cs t h = expand-with-size (mct-spares n kept cs t) cs t ∙ counted (length cs) h

@@ -16,12 +16,12 @@ use Rattle.cascades.specs.Control.{positive, negative, met, all-met, mct
 use Rattle.cascades.proofs.Published.{three-controls}
 
 -- the reduced list of `(mct (0 1) 2)`
-two-controls-reduced : nf (expansion 3 (0 ∷ 1 ∷ []) 2) ≡ Powered 1 0 2 ∷ Powered 1 1 2 ∷ Powered 2 0 1 ∷ Powered 3 1 2 ∷ Powered 2 0 1 ∷ []
+two-controls-reduced : nf (expansion 3 [] (0 ∷ 1 ∷ []) 2) ≡ Powered 1 0 2 ∷ Powered 1 1 2 ∷ Powered 2 0 1 ∷ Powered 3 1 2 ∷ Powered 2 0 1 ∷ []
 unfolding expansion expand-with expand _⨾_ target slot power powered same-dec less-dec passes-dec merged free-dec turn-of turn place push nf ℕ-discrete decLt
 two-controls-reduced = refl
 
 -- 5 lines, `(mct (0 1 2) 3)`: spare 4, expansion 16, quote 14
-three-controls-spare : mct-spares 5 (0 ∷ 1 ∷ 2 ∷ []) 3 ≡ 4 ∷ []
+three-controls-spare : mct-spares 5 [] (0 ∷ 1 ∷ 2 ∷ []) 3 ≡ 4 ∷ []
 unfolding mct-spares lines-outside has
 three-controls-spare = refl
 
@@ -39,7 +39,7 @@ rising zero = []
 rising (suc k) = rising k ++ (k ∷ [])
 
 -- the table, counted on expansions on 17 lines with the controls 0 to k-1 and the target k, for k = 0 to 15
-table : map (λ k. length (expansion 17 (rising k) k)) (rising 16) ≡ counts
+table : map (λ k. length (expansion 17 [] (rising k) k)) (rising 16) ≡ counts
 unfolding expansion expand-with expand mct-spares lines-outside has _⨾_ joined inverse inverted rising
 table = refl
 

@@ -3,7 +3,8 @@ use mathlib.Core.Path.{_≡_, sym, ap, _∙_}
 use mathlib.Core.Logic.{_≢_}
 use mathlib.Core.Bool.{true, false, false≢true}
 use mathlib.Core.List.{List, [], _∷_, _++_}
-use Prim.Native.Nat.{ℕ, _/_, _<_}
+use Prim.Native.Nat.{ℕ, _/_, _≤_, _<_}
+use native.Mathlib.Omega.{arith}
 use lib.Dec.{eqb}
 use borrow.Author.Tests.{eq-eqb, eqb-false}
 use lib.ListN.{length, take-append-drop}
@@ -30,6 +31,11 @@ distinct-two a b e r = let q = eq-eqb a b r in false≢true (rw q at e)
 pub halves-join : (cs : List ℕ) → c0 cs ++ c1 cs ≡ cs
 halves-join cs = take-append-drop (length cs / 2) cs
 
+-- lines below a bound are below a larger one
+pub below-more : (n m : ℕ) (l : List ℕ) → n ≤ m → Below n l → Below m l
+unfolding Below
+below-more n m l h = every-follows (λ c. c < n) (λ c. c < m) (λ c b. omega arith) l
+
 module _ (n : ℕ) where
   -- ---- the smaller gates
 
@@ -54,9 +60,9 @@ module _ (n : ℕ) where
 
   -- ---- gates that can be expanded are on the n lines
 
-  pub on-lines : {cs : List ℕ} {t : ℕ} → Expandable n cs t → Below n cs → OnLines n cs t
+  pub on-lines : {kept cs : List ℕ} {t : ℕ} → Expandable n kept cs t → Below n cs → OnLines n cs t
   on-lines w b = record { apart = w .apart; other = w .other; line = w .line; below = b }
 
-  pub all-on-lines : (gs : List Controlled) → AllExpandable n gs → AllOnLines n gs
+  pub all-on-lines : (kept : List ℕ) (gs : List Controlled) → AllExpandable n kept gs → AllOnLines n gs
   unfolding AllExpandable AllOnLines
-  all-on-lines = every-follows _ _ (λ g w. on-lines (w .0) (w .1))
+  all-on-lines kept = every-follows _ _ (λ g w. on-lines (w .0) (w .1))

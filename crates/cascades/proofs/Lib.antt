@@ -18,5 +18,7 @@ pub mod Renaming
 pub mod Placement
 pub mod Bases
 pub mod Realises
+pub mod Touched
+pub mod LineSets
 pub mod Signless
 pub mod Examples

@@ -55,7 +55,7 @@ five-before : expansion 8 five 5 ≡ joined 6 5 (toffoli 0 1 6) (joined 0 6 (cn 
 unfolding expansion expand spare has
 five-before = refl
 
-five-differs : now.expansion 8 five 5 ≢ expansion 8 five 5
+five-differs : now.expansion 8 [] five 5 ≢ expansion 8 five 5
 unfolding now.expansion expand-with now.expand mct-spares lines-outside expansion expand spare has _⨾_ joined inverse inverted slot
 five-differs e = let q : _≡_ {A = ℕ} 8 1 = ap (λ c. slot (getD c 7 (Not 0))) e in omega arith
 
@@ -72,12 +72,12 @@ expand-size (suc f) n (a ∷ b ∷ c ∷ cs) t =
     let s : ℕ = spare n 0 (t ∷ l) in
     size-joined f s t l (expand f n (c0 l) s) (expand f n (c1 l) s) (omega arith) (expand-size f n (c0 l) s) (expand-size f n (c1 l) s)
 
-length-before : (n : ℕ) (cs : List ℕ) (t : ℕ) → length (now.expansion n cs t) ≡ length (expansion n cs t)
+length-before : (n : ℕ) (cs : List ℕ) (t : ℕ) → length (now.expansion n [] cs t) ≡ length (expansion n cs t)
 unfolding now.expansion expansion
-length-before n cs t = expand-with-size (mct-spares n cs t) cs t ∙ sym (expand-size (suc (length cs)) n cs t)
+length-before n cs t = expand-with-size (mct-spares n [] cs t) cs t ∙ sym (expand-size (suc (length cs)) n cs t)
 
 -- also with signs
-pub count-before : (n : ℕ) (cs : List Control) (t : ℕ) → length (now-signed.expansion± n cs t) ≡ length (expansion± n cs t)
+pub count-before : (n : ℕ) (cs : List Control) (t : ℕ) → length (now-signed.expansion± n [] cs t) ≡ length (expansion± n cs t)
 unfolding now-signed.expansion± expansion±
 count-before n cs t = length-between (negated-lines cs) _ ∙ rw (length-before n (control-lines cs) t) (sym (length-between (negated-lines cs) _))
 
@@ -95,12 +95,12 @@ first-is-lowest (suc m) i l h = go (has i l) h (first-is-lowest m (suc i) l)
     go false k rest = refl
 
 module _ (n : ℕ) where
-  first-before : {cs : List ℕ} {t : ℕ} → 3 ≤ length cs → Expandable n cs t → Below n cs → first-spare (mct-spares n cs t) ≡ spare n 0 (t ∷ cs)
+  first-before : {cs : List ℕ} {t : ℕ} → 3 ≤ length cs → Expandable n [] cs t → Below n cs → first-spare (mct-spares n [] cs t) ≡ spare n 0 (t ∷ cs)
   unfolding mct-spares
-  first-before {cs} {t} k w b = first-is-lowest n 0 (t ∷ cs) (mct-spared n w b .enough k)
+  first-before {cs} {t} k w b = first-is-lowest n 0 (t ∷ cs) (mct-spared n [] w b .enough k)
 
   -- "With at most four controls the expansion is the one of before", whatever the lines
-  pub few-controls : (cs : List ℕ) (t : ℕ) → Expandable n cs t → Below n cs → length cs ≤ 4 → now.expansion n cs t ≡ expansion n cs t
+  pub few-controls : (cs : List ℕ) (t : ℕ) → Expandable n [] cs t → Below n cs → length cs ≤ 4 → now.expansion n [] cs t ≡ expansion n cs t
   unfolding now.expansion expand-with now.expand expansion expand
   few-controls [] t w b h = refl
   few-controls (a ∷ []) t w b h = refl
@@ -109,6 +109,6 @@ module _ (n : ℕ) where
   few-controls (a ∷ b ∷ c ∷ d ∷ []) t w b′ h = rw (first-before (omega arith) w b′)
   few-controls (a ∷ b ∷ c ∷ d ∷ e ∷ cs) t w b′ h = absurd (omega arith)
 
-  pub few-controls± : (cs : List Control) (t : ℕ) → Expandable n (control-lines cs) t → Below n (control-lines cs) → length (control-lines cs) ≤ 4 → now-signed.expansion± n cs t ≡ expansion± n cs t
+  pub few-controls± : (cs : List Control) (t : ℕ) → Expandable n [] (control-lines cs) t → Below n (control-lines cs) → length (control-lines cs) ≤ 4 → now-signed.expansion± n [] cs t ≡ expansion± n cs t
   unfolding now-signed.expansion± expansion±
   few-controls± cs t w b h = rw (few-controls (control-lines cs) t w b h)

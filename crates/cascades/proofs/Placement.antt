@@ -1,27 +1,32 @@
--- The quote of an mct gate that stands alone goes by how many lines there are, how many controls it has and which of these are negated, the first,
--- the second and so on; it does not go by which lines they are. With the lowest spare lines it did. Assumes nothing.
+-- The quote of an mct gate that stands alone goes by how many controls it has and which of these are negated, the first, the second and so on, and by how
+-- many lines it leaves unnamed and unkept; it does not go by which lines they are. With the lowest spare lines it did. Assumes nothing.
 use mathlib.Core.Path.{_≡_, refl, sym, ap, _∙_}
 use mathlib.Core.Bool.{Bool, true, false, not, cond, _||_, false≢true}
 use mathlib.Core.List.{List, [], _∷_, _++_, map, map-append, append-nil}
-use Prim.Native.Nat.{ℕ, zero, suc, _≤_, _<_}
+use Prim.Native.Nat.{ℕ, zero, suc, _+_, _≤_, _<_}
 use native.Mathlib.Omega.{arith}
 use native.Mathlib.Decide.{decLt}
 use lib.Dec.{eqb}
 use borrow.Author.Tests.{eq-eqb, ne-eqb, eqb-true, eqb-false, not-true}
-use lib.ListN.{length, drop, getD, length-map}
+use lib.ListN.{length, drop, getD, length-map, length-append}
 use Rattle.gates.specs.declared.Gate.{Gate}
 use Rattle.gates.specs.Reduced.{Reduced}
 use Rattle.gates.proofs.Every.{every-at}
+use Rattle.gates.proofs.ReducedLists.{reduced-on-lines}
+use Rattle.gates.proofs.CodeLists.{all-valid-more}
 use Rattle.meaning.specs.Pattern.{has, distinct}
 use Rattle.meaning.proofs.Flips.{both, neither, has-append}
-use Rattle.cascades.specs.Expansion.{_⨾_, mct-spares, expand-with, expansion, Expandable}
+use Rattle.cascades.specs.Expansion.{_⨾_, mct-spares, expand-with, expansion}
 use Rattle.cascades.specs.Control.{Control, control-lines, negated-lines}
-use Rattle.cascades.specs.Signs.{expansion±}
-use Rattle.cascades.specs.Cascade.{Controlled, expand-all, Below, AllExpandable}
+use Rattle.cascades.specs.Signs.{between-nots, expansion±}
+use Rattle.cascades.specs.Cascade.{Controlled, expand-all, Below, OnLines, AllExpandable}
 use Rattle.cascades.specs.Spares.{Spared}
 use Rattle.cascades.proofs.Spare.{spare-line, distinct-length}
 use Rattle.cascades.proofs.SpareLists.{mct-spares-exactly}
-use Rattle.cascades.proofs.Spared.{mct-spared}
+use Rattle.cascades.proofs.Times.{lines-distinct, lines-below}
+use Rattle.cascades.proofs.Halves.{below-more}
+use Rattle.cascades.proofs.Spared.{mct-lines, mct-spared}
+use Rattle.cascades.proofs.Signs.{expand-all-fits}
 use Rattle.cascades.proofs.SignLines.{length-control-lines}
 use Rattle.cascades.proofs.Renaming.{renamed, renamed-between, expand-with-renamed, no-longer-renamed}
 
@@ -100,25 +105,42 @@ two-parts (c ∷ a) (d ∷ a′) h e =
     let q = two-parts a a′ (omega arith) (ap (drop 1) e) in
     (rw (p, q .0), q .1)
 
--- ---- target, controls and spares of an mct gate are all n lines
+-- ---- a gate's lines and those that it does not name are all n lines
 
-module _ (n : ℕ) {cs : List ℕ} {t : ℕ} (w : Expandable n cs t) (b : Below n cs) where
-  each-line : (j : ℕ) → j < n → has j (t ∷ (cs ++ mct-spares n cs t)) ≡ true
-  each-line j h = has-append j (t ∷ cs) (mct-spares n cs t) ∙ go (has j (t ∷ cs)) refl
+module _ (n : ℕ) {cs : List ℕ} {t : ℕ} (w : OnLines n cs t) where
+  abbrev every-line : List ℕ
+  every-line = t ∷ (cs ++ mct-spares n [] cs t)
+
+  each-line : (j : ℕ) → j < n → has j every-line ≡ true
+  each-line j h = has-append j (t ∷ cs) (mct-spares n [] cs t) ∙ go (has j (t ∷ cs)) refl
     where
-      go : (x : Bool) → has j (t ∷ cs) ≡ x → (x || has j (mct-spares n cs t)) ≡ true
+      go : (x : Bool) → has j (t ∷ cs) ≡ x → (x || has j (mct-spares n [] cs t)) ≡ true
       go true e = refl
-      go false e = mct-spares-exactly n cs t j .1 (h, e)
+      go false e = mct-spares-exactly n [] cs t j .1 (h, e)
 
-  all-lines : length (t ∷ (cs ++ mct-spares n cs t)) ≡ n
-  all-lines =
-      let p = mct-spared n w b in
-      let l : List ℕ = t ∷ (cs ++ mct-spares n cs t) in
-      omega (arith, distinct-length n l (p .apart) (p .below), no-fewer l (decLt (length l) n) each-line)
+  lines-apart : distinct every-line ≡ true
+  lines-apart = lines-distinct (mct-lines n [] w)
+
+  lines-within : Below n every-line
+  lines-within = lines-below (mct-lines n [] w)
+
+  all-lines : length every-line ≡ n
+  all-lines = omega (arith, distinct-length n every-line lines-apart lines-within, no-fewer every-line (decLt (length every-line) n) each-line)
     where
       no-fewer : (l : List ℕ) → Dec (length l < n) → ((j : ℕ) → j < n → has j l ≡ true) → n ≤ length l
       no-fewer l (yes h) f = absurd (let j = spare-line n l h in false≢true (sym (j .2) ∙ f (j .0) (j .1)))
       no-fewer l (no h) f = omega arith
+
+-- so where nothing is kept an mct has all lines but its own for spares
+pub spares-left : (n : ℕ) {cs : List ℕ} {t : ℕ} → OnLines n cs t → length (mct-spares n [] cs t) + length cs + 1 ≡ n
+spares-left n {cs} {t} w = omega (arith, all-lines n w, length-append cs (mct-spares n [] cs t))
+
+-- controls and spares of a gate, taken together, are lines that it could name
+spared-all : (n : ℕ) {sp cs : List ℕ} {t : ℕ} → Spared n sp cs t → OnLines n (cs ++ sp) t
+unfolding distinct Below
+spared-all n {sp} {cs} {t} w =
+    let u = both (not (has t (cs ++ sp))) (distinct (cs ++ sp)) (w .apart) in
+    record { apart = u .1; other = not-true (has t (cs ++ sp)) (u .0); line = w .below .0; below = w .below .1 }
 
 -- ---- two gates with as many controls
 
@@ -141,14 +163,18 @@ negated-renamed ρ (c ∷ cs) (d ∷ ds) e f =
     go true = refl
     go false = refl
 
--- the gate as one of n lines
-abbrev On : ℕ → List Control → ℕ → Type 0
-On n cs t = Expandable n (control-lines cs) t × Below n (control-lines cs)
+-- with as many spares
+module _ (n : ℕ) (cs ds : List Control) (t u : ℕ) (sp sq : List ℕ) (w : Spared n sp (control-lines cs) t) (v : Spared n sq (control-lines ds) u) (same : signs cs ≡ signs ds) (as-many : length sp ≡ length sq) where
+  -- the gate with these spares, between its NOTs
+  abbrev first-gate : List Gate
+  first-gate = between-nots (negated-lines cs) (expand-with sp (control-lines cs) t)
 
-module _ (n : ℕ) (cs ds : List Control) (t u : ℕ) (w : On n cs t) (v : On n ds u) (same : signs cs ≡ signs ds) where
-  no-longer : {r s : List Gate} → Reduced n (expansion± n cs t) r → Reduced n (expansion± n ds u) s → length s ≤ length r
-  unfolding Below expansion± expansion names
-  no-longer {s = s} x y = let z : Reduced n (map (renamed ρ) (expansion± n cs t)) s = rw other-gate y in no-longer-renamed n ρ into apart x z
+  abbrev second-gate : List Gate
+  second-gate = between-nots (negated-lines ds) (expand-with sq (control-lines ds) u)
+
+  no-longer : {r s : List Gate} → Reduced n first-gate r → Reduced n second-gate s → length s ≤ length r
+  unfolding Below names
+  no-longer {s = s} x y = let z : Reduced n (map (renamed ρ) first-gate) s = rw other-gate y in no-longer-renamed n ρ into apart x z
     where
       k : List ℕ
       k = control-lines cs
@@ -156,56 +182,79 @@ module _ (n : ℕ) (cs ds : List Control) (t u : ℕ) (w : On n cs t) (v : On n 
       l : List ℕ
       l = control-lines ds
 
+      on-a : OnLines n (k ++ sp) t
+      on-a = spared-all n w
+
+      on-b : OnLines n (l ++ sq) u
+      on-b = spared-all n v
+
       a : List ℕ
-      a = t ∷ (k ++ mct-spares n k t)
+      a = every-line n on-a
 
       b : List ℕ
-      b = u ∷ (l ++ mct-spares n l u)
+      b = every-line n on-b
 
       ρ : ℕ → ℕ
       ρ = names a b
 
-      p : Spared n (mct-spares n k t) k t
-      p = mct-spared n (w .0) (w .1)
-
-      q : Spared n (mct-spares n l u) l u
-      q = mct-spared n (v .0) (v .1)
-
-      long : length a ≡ n
-      long = all-lines n (w .0) (w .1)
-
-      long-too : length b ≡ n
-      long-too = all-lines n (v .0) (v .1)
-
       in-b : (i : ℕ) → i < n → place i a < length b
-      in-b i h = omega (arith, place-below i a (each-line n (w .0) (w .1) i h), long, long-too)
+      in-b i h = omega (arith, place-below i a (each-line n on-a i h), all-lines n on-a, all-lines n on-b)
 
       into : (i : ℕ) → i < n → ρ i < n
-      into i h = every-at (λ c. c < n) b (place i a) 0 (in-b i h) (q .below)
+      into i h = every-at (λ c. c < n) b (place i a) 0 (in-b i h) (lines-within n on-b)
 
       apart : (i j : ℕ) → i < n → j < n → ρ i ≡ ρ j → i ≡ j
       apart i j h m e =
-          let z : place i a ≡ place j a = one-place b (q .apart) (place i a) (place j a) (in-b i h) (in-b j m) e in
-          sym (at-place i a (each-line n (w .0) (w .1) i h)) ∙ ap (λ x. getD a x 0) z ∙ at-place j a (each-line n (w .0) (w .1) j m)
+          let z : place i a ≡ place j a = one-place b (lines-apart n on-b) (place i a) (place j a) (in-b i h) (in-b j m) e in
+          sym (at-place i a (each-line n on-a i h)) ∙ ap (λ x. getD a x 0) z ∙ at-place j a (each-line n on-a j m)
 
       all-named : map ρ a ≡ b
-      all-named = named a b (p .apart) (long ∙ sym long-too)
+      all-named = named a b (lines-apart n on-a) (all-lines n on-a ∙ sym (all-lines n on-b))
 
-      parts : (map ρ k ≡ l) × (map ρ (mct-spares n k t) ≡ mct-spares n l u)
-      parts = two-parts (map ρ k) l (omega (arith, length-map k ρ, ap length same, length-map cs (λ c. c .negated), length-map ds (λ c. c .negated), length-control-lines cs, length-control-lines ds)) (sym (map-append ρ k (mct-spares n k t)) ∙ ap (drop 1) all-named)
+      as-many-controls : length (map ρ k) ≡ length l
+      as-many-controls = omega (arith, length-map k ρ, ap length same, length-map cs (λ c. c .negated), length-map ds (λ c. c .negated), length-control-lines cs, length-control-lines ds)
+
+      named-by-both : map ρ (k ++ sp) ≡ l ++ sq
+      named-by-both = two-parts (map ρ (k ++ sp)) (l ++ sq) (omega (arith, length-map (k ++ sp) ρ, length-append k sp, length-append l sq, length-map k ρ, as-many-controls, as-many)) (sym (map-append ρ (k ++ sp) (mct-spares n [] (k ++ sp) t)) ∙ ap (drop 1) all-named) .0
+
+      parts : (map ρ k ≡ l) × (map ρ sp ≡ sq)
+      parts = two-parts (map ρ k) l as-many-controls (sym (map-append ρ k sp) ∙ named-by-both)
 
       target-is : ρ t ≡ u
       target-is = ap (λ x. getD x 0 0) all-named
 
-      other-gate : map (renamed ρ) (expansion± n cs t) ≡ expansion± n ds u
-      other-gate =
-          renamed-between ρ (negated-lines cs) (expand-with (mct-spares n k t) k t)
-          ∙ rw (negated-renamed ρ cs ds same (parts .0), expand-with-renamed ρ n (mct-spares n k t) k t p, parts .0, parts .1, target-is)
+      other-gate : map (renamed ρ) first-gate ≡ second-gate
+      other-gate = renamed-between ρ (negated-lines cs) (expand-with sp k t) ∙ rw (negated-renamed ρ cs ds same (parts .0), expand-with-renamed ρ n sp k t w, parts .0, parts .1, target-is)
 
--- the quotes of two gates, each a cascade by itself, on as many lines, with as many controls and the same signs
-pub placement : (n : ℕ) (g h : Controlled) {r s : List Gate} → AllExpandable n (g ∷ []) → AllExpandable n (h ∷ []) → signs (g .controls) ≡ signs (h .controls) → Reduced n (expand-all n (g ∷ [])) r → Reduced n (expand-all n (h ∷ [])) s → length r ≡ length s
-unfolding expand-all AllExpandable _⨾_
-placement n g h {r} {s} w v e x y =
-    let p : Reduced n (expansion± n (g .controls) (g .target)) r = rw append-nil at x in
-    let q : Reduced n (expansion± n (h .controls) (h .target)) s = rw append-nil at y in
-    omega (arith, no-longer n (g .controls) (h .controls) (g .target) (h .target) (w .0) (v .0) e p q, no-longer n (h .controls) (g .controls) (h .target) (g .target) (v .0) (w .0) (sym e) q p)
+-- the spares of an mct gate on n lines of which these are kept
+abbrev pub spares-of : ℕ → List ℕ → Controlled → List ℕ
+spares-of n kept g = mct-spares n kept (control-lines (g .controls)) (g .target)
+
+-- an mct gate by itself, on more lines with the same spares
+alone-spared : (n m : ℕ) (kept : List ℕ) (g : Controlled) → n ≤ m → AllExpandable n kept (g ∷ []) → Spared m (spares-of n kept g) (control-lines (g .controls)) (g .target)
+unfolding AllExpandable
+alone-spared n m kept g h w =
+    let p = mct-spared n kept (w .0 .0) (w .0 .1) in
+    record { apart = p .apart; below = below-more n m _ h (p .below); enough = p .enough }
+
+alone-reduced : (n m : ℕ) (kept : List ℕ) (g : Controlled) {r : List Gate} → n ≤ m → AllExpandable n kept (g ∷ []) → Reduced n (expand-all n kept (g ∷ [])) r
+    → Reduced m (between-nots (negated-lines (g .controls)) (expand-with (spares-of n kept g) (control-lines (g .controls)) (g .target))) r
+unfolding expand-all expansion± expansion _⨾_
+alone-reduced n m kept g {r} h w x =
+    let v = expand-all-fits n kept (g ∷ []) w in
+    rw append-nil at (reduced-on-lines n m v (all-valid-more n m (expand-all n kept (g ∷ [])) h v) x)
+
+-- the quotes of two gates, each a cascade by itself, with as many controls, the same signs and as many spares: unnamed, unkept lines. The number of
+-- lines may differ
+pub placement : (n m : ℕ) (kept others : List ℕ) (g h : Controlled) {r s : List Gate} → AllExpandable n kept (g ∷ []) → AllExpandable m others (h ∷ []) → signs (g .controls) ≡ signs (h .controls) → length (spares-of n kept g) ≡ length (spares-of m others h)
+    → Reduced n (expand-all n kept (g ∷ [])) r → Reduced m (expand-all m others (h ∷ [])) s → length r ≡ length s
+placement n m kept others g h {r} {s} w v e f x y =
+    let i : n ≤ n + m = omega arith in
+    let j : m ≤ n + m = omega arith in
+    let a = alone-spared n (n + m) kept g i w in
+    let b = alone-spared m (n + m) others h j v in
+    let p = alone-reduced n (n + m) kept g i w x in
+    let q = alone-reduced m (n + m) others h j v y in
+    let down = no-longer (n + m) (g .controls) (h .controls) (g .target) (h .target) (spares-of n kept g) (spares-of m others h) a b e f p q in
+    let up = no-longer (n + m) (h .controls) (g .controls) (h .target) (g .target) (spares-of m others h) (spares-of n kept g) b a (sym e) (sym f) q p in
+    omega (arith, down, up)

@@ -20,13 +20,13 @@ use Rattle.cascades.proofs.Spared.{first-unnamed, spared-m0, spared-m1,
 -- ---- closed gates
 
 -- `(mct (0 1) 2)`: v 1 2; cn 0 1; vp 1 2; cn 0 1; v 0 2
-two-controls-in-order : expansion 3 (0 ∷ 1 ∷ []) 2 ≡ Powered 1 1 2 ∷ Powered 2 0 1 ∷ Powered 3 1 2 ∷ Powered 2 0 1 ∷ Powered 1 0 2 ∷ []
+two-controls-in-order : expansion 3 [] (0 ∷ 1 ∷ []) 2 ≡ Powered 1 1 2 ∷ Powered 2 0 1 ∷ Powered 3 1 2 ∷ Powered 2 0 1 ∷ Powered 1 0 2 ∷ []
 unfolding expansion expand-with expand _⨾_
 two-controls-in-order = refl
 
 -- `(mct (0 1 2) 3)` on 5 lines, with the spare line 4
 abbrev pub three-controls : List Gate
-three-controls = expansion 5 (0 ∷ 1 ∷ 2 ∷ []) 3
+three-controls = expansion 5 [] (0 ∷ 1 ∷ 2 ∷ []) 3
 
 -- v 4 3; M0, which is cn 0 4; vp 4 3; M1, the five gates for 1, 2 and 4; v 4 3; M2; vp 4 3; M3
 three-controls-in-order : three-controls ≡
@@ -36,29 +36,43 @@ unfolding expansion expand-with expand mct-spares lines-outside has _⨾_ joined
 three-controls-in-order = refl
 
 -- two gates in text order: `(mct (0) 1)` and `(mct () 0)`
-two-gates-in-order : expand-all 2 (record { controls = positive 0 ∷ []; target = 1 } ∷ record { controls = []; target = 0 } ∷ []) ≡ Powered 2 0 1 ∷ Not 0 ∷ []
+two-gates-in-order : expand-all 2 [] (record { controls = positive 0 ∷ []; target = 1 } ∷ record { controls = []; target = 0 } ∷ []) ≡ Powered 2 0 1 ∷ Not 0 ∷ []
 unfolding expand-all expansion± between-nots nots control-lines negated-lines expansion expand-with expand _⨾_
 two-gates-in-order = refl
 
 -- `(mct (-0 1 -2) 3)` on 5 lines: not 0; not 2; the sixteen gates without signs; not 0; not 2
-signed-in-order : expansion± 5 (negative 0 ∷ positive 1 ∷ negative 2 ∷ []) 3 ≡ Not 0 ∷ Not 2 ∷ three-controls ⨾ (Not 0 ∷ Not 2 ∷ [])
+signed-in-order : expansion± 5 [] (negative 0 ∷ positive 1 ∷ negative 2 ∷ []) 3 ≡ Not 0 ∷ Not 2 ∷ three-controls ⨾ (Not 0 ∷ Not 2 ∷ [])
 unfolding expansion± between-nots nots control-lines negated-lines _⨾_
 signed-in-order = refl
 
 -- `(mct (0 1 2 3 4) 5)` on 8 lines borrows 6; its M1 borrows 7
-five-in-order : expansion 8 five 5 ≡ joined 6 5 (toffoli 0 1 6) (joined 7 6 (cn 2 7) (toffoli 3 4 7))
+five-in-order : expansion 8 [] five 5 ≡ joined 6 5 (toffoli 0 1 6) (joined 7 6 (cn 2 7) (toffoli 3 4 7))
 unfolding expansion expand-with expand mct-spares lines-outside has
 five-in-order = refl
 
 -- `(mct (0 1 2 3 4 5 6 7) 8)` on 11 lines (document 001, figure 5) borrows 9; its M0 borrows t, which is 8, and its M1 the next spare, 10
-eight-in-order : expansion 11 (0 ∷ 1 ∷ 2 ∷ 3 ∷ 4 ∷ 5 ∷ 6 ∷ 7 ∷ []) 8 ≡ joined 9 8 (joined 8 9 (toffoli 0 1 8) (toffoli 2 3 8)) (joined 10 9 (toffoli 4 5 10) (toffoli 6 7 10))
+eight-in-order : expansion 11 [] (0 ∷ 1 ∷ 2 ∷ 3 ∷ 4 ∷ 5 ∷ 6 ∷ 7 ∷ []) 8 ≡ joined 9 8 (joined 8 9 (toffoli 0 1 8) (toffoli 2 3 8)) (joined 10 9 (toffoli 4 5 10) (toffoli 6 7 10))
 unfolding expansion expand-with expand mct-spares lines-outside has
 eight-in-order = refl
 
 -- the same gate on 10 lines: its M1 has no further spare, and borrows the first control of C0
-eight-one-spare : expansion 10 (0 ∷ 1 ∷ 2 ∷ 3 ∷ 4 ∷ 5 ∷ 6 ∷ 7 ∷ []) 8 ≡ joined 9 8 (joined 8 9 (toffoli 0 1 8) (toffoli 2 3 8)) (joined 0 9 (toffoli 4 5 0) (toffoli 6 7 0))
+eight-one-spare : expansion 10 [] (0 ∷ 1 ∷ 2 ∷ 3 ∷ 4 ∷ 5 ∷ 6 ∷ 7 ∷ []) 8 ≡ joined 9 8 (joined 8 9 (toffoli 0 1 8) (toffoli 2 3 8)) (joined 0 9 (toffoli 4 5 0) (toffoli 6 7 0))
 unfolding expansion expand-with expand mct-spares lines-outside has
 eight-one-spare = refl
+
+-- `(mct (0 1 2) 3)` on 6 lines with `(keep 4)` borrows 5
+three-keeping-4 : expansion 6 (4 ∷ []) (0 ∷ 1 ∷ 2 ∷ []) 3 ≡ joined 5 3 (cn 0 5) (toffoli 1 2 5)
+unfolding expansion expand-with expand mct-spares lines-outside has
+three-keeping-4 = refl
+
+-- `(mct (0 1 2 3 4) 5)` on 8 lines with `(keep 6)` borrows 7, and its M1 a control, 0; with `(keep 0 6)` too: the mct names 0
+five-keeping-6 : expansion 8 (6 ∷ []) five 5 ≡ joined 7 5 (toffoli 0 1 7) (joined 0 7 (cn 2 0) (toffoli 3 4 0))
+unfolding expansion expand-with expand mct-spares lines-outside has
+five-keeping-6 = refl
+
+five-keeping-0-and-6 : expansion 8 (0 ∷ 6 ∷ []) five 5 ≡ expansion 8 (6 ∷ []) five 5
+unfolding expansion expand-with expand mct-spares lines-outside has
+five-keeping-0-and-6 = refl
 
 -- ---- one choice of spare lines
 
@@ -83,11 +97,13 @@ module _ (n : ℕ) where
   unfolding expand-with
   expand-with-expands sp cs t w = expand-expands (suc (length cs)) sp cs t (omega arith) w
 
-  pub expansion-expands : (cs : List ℕ) (t : ℕ) → Expandable n cs t → Below n cs → Expands n cs t (expansion n cs t)
-  unfolding expansion
-  expansion-expands cs t w b = expand-with-expands (mct-spares n cs t) cs t (mct-spared n w b)
+  -- so also without the kept lines
+  module _ (kept : List ℕ) where
+    pub expansion-expands : (cs : List ℕ) (t : ℕ) → Expandable n kept cs t → Below n cs → Expands n cs t (expansion n kept cs t)
+    unfolding expansion
+    expansion-expands cs t w b = expand-with-expands (mct-spares n kept cs t) cs t (mct-spared n kept w b)
 
-  pub expand-all-expands : (gs : List Controlled) → AllExpandable n gs → ExpandsAll n gs (expand-all n gs)
-  unfolding expand-all AllExpandable expansion±
-  expand-all-expands [] w = no-gate
-  expand-all-expands (g ∷ gs) w = next-gate (signed (expansion-expands (control-lines (g .controls)) (g .target) (w .0 .0) (w .0 .1))) (expand-all-expands gs (w .1))
+    pub expand-all-expands : (gs : List Controlled) → AllExpandable n kept gs → ExpandsAll n gs (expand-all n kept gs)
+    unfolding expand-all AllExpandable expansion±
+    expand-all-expands [] w = no-gate
+    expand-all-expands (g ∷ gs) w = next-gate (signed (expansion-expands (control-lines (g .controls)) (g .target) (w .0 .0) (w .0 .1))) (expand-all-expands gs (w .1))

@@ -66,6 +66,7 @@ module _ (n : ℕ) {gs : List Controlled} where
 
 -- ---- the published order of spare lines
 
--- demand 2: for every cascade whose gates can be expanded, as rules 4 to 8 ask, the reduced list of its expansion realises it
-pub reduced-realises : (n : ℕ) (gs : List Controlled) {r : List Gate} → AllExpandable n gs → Reduced n (expand-all n gs) r → Realises n gs r
-reduced-realises n gs w k = reduced-expansions-realise n (all-on-lines n gs w) (expand-all-expands n gs w) k
+-- demand 2: for every cascade whose gates can be expanded, as rules 4 to 8 ask, whichever lines are kept, the reduced list of its expansion realises
+-- it
+pub reduced-realises : (n : ℕ) (kept : List ℕ) (gs : List Controlled) {r : List Gate} → AllExpandable n kept gs → Reduced n (expand-all n kept gs) r → Realises n gs r
+reduced-realises n kept gs w k = reduced-expansions-realise n (all-on-lines n kept gs w) (expand-all-expands n kept gs w) k

@@ -28,7 +28,7 @@ after (g ∷ gs) y = after gs (mct (g .controls) (g .target) y)
 
 unfoldable pub expand-all : ℕ → List Controlled → List Gate
 expand-all n [] = []
-expand-all n (g ∷ gs) = expansion n (g .controls) (g .target) ⨾ expand-all n gs
+expand-all n (g ∷ gs) = expansion n [] (g .controls) (g .target) ⨾ expand-all n gs
 
 unfoldable pub targets : List Controlled → List ℕ
 targets [] = []
@@ -67,9 +67,9 @@ unfolding mct± mct
 positives-mct cs t x = rw (positives-met cs x)
 
 -- no NOT is put in where no control is negated
-pub signless-expansion : (n : ℕ) (cs : List Control) (t : ℕ) → negated-lines cs ≡ [] → expansion± n cs t ≡ expansion n (control-lines cs) t
+pub signless-expansion : (n : ℕ) (kept : List ℕ) (cs : List Control) (t : ℕ) → negated-lines cs ≡ [] → expansion± n kept cs t ≡ expansion n kept (control-lines cs) t
 unfolding expansion± between-nots nots _⨾_
-signless-expansion n cs t e = rw e (append-nil (expansion n (control-lines cs) t))
+signless-expansion n kept cs t e = rw e (append-nil (expansion n kept (control-lines cs) t))
 
 -- ---- cascades without a sign
 
@@ -82,12 +82,12 @@ unfolding now.after after
 pattern-before [] y = refl
 pattern-before (g ∷ gs) y = ap (now.after (signless gs)) (positives-mct (g .controls) (g .target) y) ∙ pattern-before gs (mct (g .controls) (g .target) y)
 
-pub expanded-before : (n : ℕ) (gs : List Controlled) → now.expand-all n (signless gs) ≡ expand-all n gs
+pub expanded-before : (n : ℕ) (gs : List Controlled) → now.expand-all n [] (signless gs) ≡ expand-all n gs
 unfolding now.expand-all expand-all
 expanded-before n [] = refl
 expanded-before n (g ∷ gs) =
-    let e : expansion± n (positives (g .controls)) (g .target) ≡ expansion n (g .controls) (g .target) =
-    rw (signless-expansion n (positives (g .controls)) (g .target) (none-negated (g .controls)), positive-lines (g .controls)) in
+    let e : expansion± n [] (positives (g .controls)) (g .target) ≡ expansion n [] (g .controls) (g .target) =
+    rw (signless-expansion n [] (positives (g .controls)) (g .target) (none-negated (g .controls)), positive-lines (g .controls)) in
     rw (e, expanded-before n gs)
 
 targets-before : (gs : List Controlled) → now.targets (signless gs) ≡ targets gs

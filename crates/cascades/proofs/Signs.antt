@@ -13,7 +13,7 @@ use Rattle.gates.proofs.Reach.{all-valid-append}
 use Rattle.meaning.specs.Pattern.{Pattern, mct, distinct}
 use Rattle.meaning.proofs.Runs.{Acts}
 use Rattle.cascades.specs.Expansion.{_⨾_, Expandable, counts}
-use Rattle.cascades.specs.Cascade.{Controlled, expand-all, Below, OnLines}
+use Rattle.cascades.specs.Cascade.{Controlled, expand-all, Below, OnLines, AllExpandable}
 use Rattle.cascades.proofs.Halves.{on-lines}
 use Rattle.cascades.proofs.Published.{expansion-expands}
 use Rattle.cascades.proofs.Valid.{expands-valid}
@@ -25,10 +25,10 @@ use Rattle.cascades.specs.Signs.{nots, between-nots, Expands±, signed, 
 use Rattle.cascades.proofs.SignLines.{negated-distinct, negated-below, length-control-lines}
 use Rattle.cascades.proofs.SignFlips.{flips, nots-act, mct-between-flips}
 
--- the published order of spare lines is one choice
-pub expansion±-expands : (n : ℕ) (cs : List Control) (t : ℕ) → Expandable n (control-lines cs) t → Below n (control-lines cs) → Expands± n cs t (expansion± n cs t)
+-- the published order of spare lines is one choice, whichever lines are kept
+pub expansion±-expands : (n : ℕ) (kept : List ℕ) (cs : List Control) (t : ℕ) → Expandable n kept (control-lines cs) t → Below n (control-lines cs) → Expands± n cs t (expansion± n kept cs t)
 unfolding expansion±
-expansion±-expands n cs t w b = signed (expansion-expands n (control-lines cs) t w b)
+expansion±-expands n kept cs t w b = signed (expansion-expands n kept (control-lines cs) t w b)
 
 -- ---- on the lines
 
@@ -44,8 +44,13 @@ between-valid n l c b v = all-valid-append n (nots l) _ (nots-valid n l b) (all-
 pub expands±-valid : (n : ℕ) {cs : List Control} {t : ℕ} {c : List Gate} → OnLines n (control-lines cs) t → Expands± n cs t c → AllValid n c
 expands±-valid n {cs} w (signed {c} e) = between-valid n (negated-lines cs) c (negated-below n cs (w .below)) (expands-valid n w e)
 
-pub expansion±-fits : (n : ℕ) (cs : List Control) (t : ℕ) → Expandable n (control-lines cs) t → Below n (control-lines cs) → AllValid n (expansion± n cs t)
-expansion±-fits n cs t w b = expands±-valid n (on-lines n w b) (expansion±-expands n cs t w b)
+pub expansion±-fits : (n : ℕ) (kept : List ℕ) (cs : List Control) (t : ℕ) → Expandable n kept (control-lines cs) t → Below n (control-lines cs) → AllValid n (expansion± n kept cs t)
+expansion±-fits n kept cs t w b = expands±-valid n (on-lines n w b) (expansion±-expands n kept cs t w b)
+
+pub expand-all-fits : (n : ℕ) (kept : List ℕ) (gs : List Controlled) → AllExpandable n kept gs → AllValid n (expand-all n kept gs)
+unfolding expand-all AllExpandable _⨾_
+expand-all-fits n kept [] w = tt
+expand-all-fits n kept (g ∷ gs) w = all-valid-append n (expansion± n kept (g .controls) (g .target)) (expand-all n kept gs) (expansion±-fits n kept (g .controls) (g .target) (w .0 .0) (w .0 .1)) (expand-all-fits n kept gs (w .1))
 
 -- ---- how many gates
 
@@ -61,21 +66,21 @@ length-between l c = simp (length-append, length-nots) (omega arith)
 pub expands±-count : (n : ℕ) {cs : List Control} {t : ℕ} {c : List Gate} → Expands± n cs t c → length cs ≤ 15 → length c ≡ getD counts (length cs) 0 + 2 * length (negated-lines cs)
 expands±-count n {cs} (signed {c} e) h = length-between (negated-lines cs) c ∙ rw (expands-count n e (omega (arith, length-control-lines cs)), length-control-lines cs)
 
-pub expansion±-count : (n : ℕ) (cs : List Control) (t : ℕ) → length cs ≤ 15 → length (expansion± n cs t) ≡ getD counts (length cs) 0 + 2 * length (negated-lines cs)
+pub expansion±-count : (n : ℕ) (kept : List ℕ) (cs : List Control) (t : ℕ) → length cs ≤ 15 → length (expansion± n kept cs t) ≡ getD counts (length cs) 0 + 2 * length (negated-lines cs)
 unfolding expansion±
-expansion±-count n cs t h = length-between (negated-lines cs) _ ∙ rw (expansion-count n (control-lines cs) t (omega (arith, length-control-lines cs)), length-control-lines cs)
+expansion±-count n kept cs t h = length-between (negated-lines cs) _ ∙ rw (expansion-count n kept (control-lines cs) t (omega (arith, length-control-lines cs)), length-control-lines cs)
 
 -- of a cascade: for each gate the table's count, and two for each negated control
 unfoldable pub counted : List Controlled → ℕ
 counted [] = 0
 counted (g ∷ gs) = getD counts (length (g .controls)) 0 + 2 * length (negated-lines (g .controls)) + counted gs
 
-pub expand-all-count : (n : ℕ) (gs : List Controlled) → Every (λ g. length (g .controls) ≤ 15) gs → length (expand-all n gs) ≡ counted gs
+pub expand-all-count : (n : ℕ) (kept : List ℕ) (gs : List Controlled) → Every (λ g. length (g .controls) ≤ 15) gs → length (expand-all n kept gs) ≡ counted gs
 unfolding counted expand-all _⨾_
-expand-all-count n [] w = refl
-expand-all-count n (g ∷ gs) w =
-    length-append (expansion± n (g .controls) (g .target)) (expand-all n gs)
-    ∙ rw (expansion±-count n (g .controls) (g .target) (w .0), expand-all-count n gs (w .1))
+expand-all-count n kept [] w = refl
+expand-all-count n kept (g ∷ gs) w =
+    length-append (expansion± n kept (g .controls) (g .target)) (expand-all n kept gs)
+    ∙ rw (expansion±-count n kept (g .controls) (g .target) (w .0), expand-all-count n kept gs (w .1))
 
 -- ---- what they do
 

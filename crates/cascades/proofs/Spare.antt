@@ -3,13 +3,12 @@ use mathlib.Core.Path.{_≡_, refl, ap}
 use mathlib.Core.Logic.{_≢_}
 use mathlib.Core.Bool.{Bool, true, false, not, cond, _||_, false≢true}
 use mathlib.Core.List.{List, [], _∷_}
-use Prim.Native.Nat.{ℕ, zero, suc, _+_, _≤_, _<_}
+use Prim.Native.Nat.{ℕ, zero, suc, _≤_, _<_}
 use native.Mathlib.Omega.{arith}
 use lib.Dec.{T, eqb, eqb→eq}
 use borrow.Author.Tests.{ne-eqb, eqb-false, not-true}
 use lib.ListN.{length}
 use Rattle.meaning.specs.Pattern.{has, distinct}
-use Rattle.cascades.specs.Expansion.{Expandable}
 use Rattle.cascades.specs.Cascade.{Below}
 use Rattle.meaning.proofs.Flips.{neither, both}
 
@@ -52,10 +51,6 @@ spare-line (suc n) l h = go (has n l) refl (λ k. spare-line n (remove n l) k)
     go : (b : Bool) → has n l ≡ b → (length (remove n l) < n → (j : ℕ) × (j < n) × (has j (remove n l) ≡ false)) → (j : ℕ) × (j < suc n) × (has j l ≡ false)
     go true e rest = let r = rest (omega (arith, shorter n l e)) in (r .0, omega (arith, r .1), kept (r .0) n l (omega (arith, r .1)) (r .2))
     go false e rest = (n, omega arith, e)
-
--- distinct controls other than the target, and a line to spare by count
-pub valid : (n : ℕ) (cs : List ℕ) (t : ℕ) → distinct cs ≡ true → has t cs ≡ false → t < n → (3 ≤ length cs → length cs + 1 < n) → Expandable n cs t
-valid n cs t d e h k = record { apart = d; other = e; line = h; unnamed-line = λ m. spare-line n (t ∷ cs) (omega (arith, k m)) }
 
 -- ---- different lines of n
 
@@ -102,10 +97,3 @@ none-below (c ∷ cs) b = absurd (omega (arith, b .0))
 pub distinct-length : (n : ℕ) (l : List ℕ) → distinct l ≡ true → Below n l → length l ≤ n
 distinct-length zero l d b = omega (arith, none-below l b)
 distinct-length (suc n) l d b = let w = without n l d b in omega (arith, w .fewer, distinct-length n (remove n l) (w .apart) (w .below))
-
--- what rules 4 to 8 let through: numbers below n, the target no control, different controls, and not three or more controls and n = k + 1
-pub by-rules : (n : ℕ) (cs : List ℕ) (t : ℕ) → t < n → Below n cs → has t cs ≡ false → distinct cs ≡ true → (3 ≤ length cs → n ≢ length cs + 1) → Expandable n cs t
-unfolding distinct Below
-by-rules n cs t h b e d k =
-    let fill = distinct-length n (t ∷ cs) (rw (e, d)) (h, b) in
-    valid n cs t d e h (λ m. let x = k m in omega arith)

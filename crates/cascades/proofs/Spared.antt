@@ -10,7 +10,7 @@ use native.Mathlib.Decide.{ℕ-discrete}
 use borrow.Author.Tests.{not-true}
 use lib.ListN.{length, drop, length-append, length-take}
 use Rattle.meaning.specs.Pattern.{has, distinct}
-use Rattle.meaning.proofs.Flips.{both}
+use Rattle.meaning.proofs.Flips.{both, neither, has-append}
 use Rattle.cascades.specs.Expansion.{c0, c1, mct-spares, first-spare, m0-spares, m1-spares, Expandable}
 use Rattle.cascades.specs.Cascade.{Below, OnLines}
 use Rattle.cascades.specs.Spares.{Spared, Within, itself, in-m0, in-m1}
@@ -71,44 +71,52 @@ module _ (n : ℕ) where
 
   -- ---- the mct gate
 
-  module _ {cs : List ℕ} {t : ℕ} where
-    mct-lines : OnLines n cs t → Lines n (t ∷ (cs ++ mct-spares n cs t))
+  module _ (kept : List ℕ) {cs : List ℕ} {t : ℕ} where
+    pub mct-lines : OnLines n cs t → Lines n (t ∷ (cs ++ mct-spares n kept cs t))
     unfolding times
-    mct-lines w = record { apart = λ j. apart j (times j (mct-spares n cs t)) refl; below = λ j h. below j (times j (mct-spares n cs t)) refl h }
+    mct-lines w = record { apart = λ j. apart j (times j sp) refl; below = λ j h. below j (times j sp) refl h }
       where
+        sp : List ℕ
+        sp = mct-spares n kept cs t
+
         named : Lines n (t ∷ cs)
         named = unfold distinct Below in lines-of n (t ∷ cs) (rw (w .other, w .apart)) (w .line, w .below)
 
-        unnamed : (j : ℕ) → 1 ≤ times j (mct-spares n cs t) → (j < n) × (has j (t ∷ cs) ≡ false)
-        unnamed j h = every-times (λ j. (j < n) × (has j (t ∷ cs) ≡ false)) (mct-spares n cs t) (mct-spares-every n cs t _ (λ j a e. (a, e))) j h
+        unnamed : (j : ℕ) → 1 ≤ times j sp → (j < n) × (has j (t ∷ cs) ≡ false)
+        unnamed j h =
+            let u = every-times (λ j. (j < n) × (has j (kept ++ (t ∷ cs)) ≡ false)) sp (mct-spares-every n kept cs t _ (λ j a e. (a, e))) j h in
+            (u .0, neither (has j kept) (has j (t ∷ cs)) (sym (has-append j kept (t ∷ cs)) ∙ u .1) .1)
 
-        apart : (j k : ℕ) → times j (mct-spares n cs t) ≡ k → once j t + times j (cs ++ mct-spares n cs t) ≤ 1
-        apart j zero e = omega (arith, times-append j cs (mct-spares n cs t), named .apart j)
-        apart j (suc k) e = omega (arith, times-append j cs (mct-spares n cs t), out-times j (t ∷ cs) (unnamed j (omega arith) .1), mct-spares-once n cs t j)
+        apart : (j k : ℕ) → times j sp ≡ k → once j t + times j (cs ++ sp) ≤ 1
+        apart j zero e = omega (arith, times-append j cs sp, named .apart j)
+        apart j (suc k) e = omega (arith, times-append j cs sp, out-times j (t ∷ cs) (unnamed j (omega arith) .1), mct-spares-once n kept cs t j)
 
-        below : (j k : ℕ) → times j (mct-spares n cs t) ≡ k → 1 ≤ once j t + times j (cs ++ mct-spares n cs t) → j < n
-        below j zero e h = named .below j (omega (arith, times-append j cs (mct-spares n cs t)))
+        below : (j k : ℕ) → times j sp ≡ k → 1 ≤ once j t + times j (cs ++ sp) → j < n
+        below j zero e h = named .below j (omega (arith, times-append j cs sp))
         below j (suc k) e h = unnamed j (omega arith) .0
 
-    -- all unnamed lines, rising, are such a list of spares
-    pub mct-spared : Expandable n cs t → Below n cs → Spared n (mct-spares n cs t) cs t
-    mct-spared w b = lines-spared (mct-lines (on-lines n w b)) (λ k. (let j = w .unnamed-line k in mct-spares-some n cs t (j .0) (j .1) (j .2)))
+    -- all unnamed, unkept lines, rising, are such a list of spares
+    pub mct-spared : Expandable n kept cs t → Below n cs → Spared n (mct-spares n kept cs t) cs t
+    mct-spared w b = lines-spared (mct-lines (on-lines n w b)) (λ k. (let j = w .spare k in mct-spares-some n kept cs t (j .0) (j .1) (j .2)))
 
-    -- "Refusal 8 is the same condition": with three or more controls, there is no spare exactly if n = k + 1
-    pub no-spare : OnLines n cs t → (mct-spares n cs t ≡ []) ↔ (n ≡ length cs + 1)
-    unfolding distinct Below has
-    no-spare w = (λ e. full e (ℕ-discrete n (length cs + 1)), λ e. none (mct-spares n cs t) e (distinct-length n (t ∷ (cs ++ mct-spares n cs t)) (lines-distinct (mct-lines w)) (lines-below (mct-lines w))))
-      where
-        fill : length (t ∷ cs) ≤ n
-        fill = distinct-length n (t ∷ cs) (rw (w .other, w .apart)) (w .line, w .below)
+  -- "Refusal 8 is the same condition" where no line is kept: with three or more controls, there is no spare exactly if n = k + 1
+  pub no-spare : {cs : List ℕ} {t : ℕ} → OnLines n cs t → (mct-spares n [] cs t ≡ []) ↔ (n ≡ length cs + 1)
+  unfolding distinct Below has
+  no-spare {cs} {t} w = (λ e. full e (ℕ-discrete n (length cs + 1)), λ e. none sp e (distinct-length n (t ∷ (cs ++ sp)) (lines-distinct (mct-lines [] w)) (lines-below (mct-lines [] w))))
+    where
+      sp : List ℕ
+      sp = mct-spares n [] cs t
 
-        full : mct-spares n cs t ≡ [] → Dec (n ≡ length cs + 1) → n ≡ length cs + 1
-        full e (yes q) = q
-        full e (no q) = let j = spare-line n (t ∷ cs) (omega (arith, fill)) in absurd (let h = mct-spares-some n cs t (j .0) (j .1) (j .2) in omega (arith, h, ap length e))
+      fill : length (t ∷ cs) ≤ n
+      fill = distinct-length n (t ∷ cs) (rw (w .other, w .apart)) (w .line, w .below)
 
-        none : (l : List ℕ) → n ≡ length cs + 1 → length (t ∷ (cs ++ l)) ≤ n → l ≡ []
-        none [] e h = refl
-        none (s ∷ l) e h = absurd (omega (arith, length-append cs (s ∷ l)))
+      full : sp ≡ [] → Dec (n ≡ length cs + 1) → n ≡ length cs + 1
+      full e (yes q) = q
+      full e (no q) = let j = spare-line n (t ∷ cs) (omega (arith, fill)) in absurd (let h = mct-spares-some n [] cs t (j .0) (j .1) (j .2) in omega (arith, h, ap length e))
+
+      none : (l : List ℕ) → n ≡ length cs + 1 → length (t ∷ (cs ++ l)) ≤ n → l ≡ []
+      none [] e h = refl
+      none (s ∷ l) e h = absurd (omega (arith, length-append cs (s ∷ l)))
 
   -- ---- every smaller gate
 
@@ -118,5 +126,5 @@ module _ (n : ℕ) where
   within-spared (in-m0 k u) w = within-spared u (spared-m0 k w)
   within-spared (in-m1 k u) w = within-spared u (spared-m1 k w)
 
-  pub mct-within-spared : {sp′ cs′ : List ℕ} {t′ : ℕ} {cs : List ℕ} {t : ℕ} → Expandable n cs t → Below n cs → Within sp′ cs′ t′ (mct-spares n cs t) cs t → Spared n sp′ cs′ t′
-  mct-within-spared w b u = within-spared u (mct-spared w b)
+  pub mct-within-spared : {sp′ cs′ : List ℕ} {t′ : ℕ} {kept cs : List ℕ} {t : ℕ} → Expandable n kept cs t → Below n cs → Within sp′ cs′ t′ (mct-spares n kept cs t) cs t → Spared n sp′ cs′ t′
+  mct-within-spared {kept = kept} w b u = within-spared u (mct-spared kept w b)

@@ -99,7 +99,7 @@ every-times P (c ∷ l) b j h = go (eqb j c) refl h (every-times P l (b .1) j)
     go true e k rest = rw (eqb-true j c e) (b .0)
     go false e k rest = rest (omega arith)
 
-times-every : (P : ℕ → Type 0) (l : List ℕ) → ((j : ℕ) → 1 ≤ times j l → P j) → Every P l
+pub times-every : (P : ℕ → Type 0) (l : List ℕ) → ((j : ℕ) → 1 ≤ times j l → P j) → Every P l
 unfolding times
 times-every P [] h = tt
 times-every P (c ∷ l) h = (h c (omega (arith, once-same c)), times-every P l (λ j k. h j (omega arith)))

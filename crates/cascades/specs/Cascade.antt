@@ -29,10 +29,10 @@ unfoldable pub after : List Controlled → Pattern → Pattern
 after [] y = y
 after (g ∷ gs) y = after gs (mct± (g .controls) (g .target) y)
 
--- "Gates are expanded in text order and joined"
-unfoldable pub expand-all : ℕ → List Controlled → List Gate
-expand-all n [] = []
-expand-all n (g ∷ gs) = expansion± n (g .controls) (g .target) ⨾ expand-all n gs
+-- "Gates are expanded in text order and joined", each with the same kept lines
+unfoldable pub expand-all : ℕ → List ℕ → List Controlled → List Gate
+expand-all n kept [] = []
+expand-all n kept (g ∷ gs) = expansion± n kept (g .controls) (g .target) ⨾ expand-all n kept gs
 
 -- the same with any choice of spare lines at each gate
 pub data ExpandsAll (n : ℕ) : List Controlled → List Gate → Type 0 where
@@ -57,8 +57,8 @@ unfoldable pub AllOnLines : ℕ → List Controlled → Type 0
 AllOnLines n = Every (λ g. OnLines n (control-lines (g .controls)) (g .target))
 
 -- each gate of the cascade is on n lines, with a spare line where it needs one
-unfoldable pub AllExpandable : ℕ → List Controlled → Type 0
-AllExpandable n = Every (λ g. Expandable n (control-lines (g .controls)) (g .target) × Below n (control-lines (g .controls)))
+unfoldable pub AllExpandable : ℕ → List ℕ → List Controlled → Type 0
+AllExpandable n kept = Every (λ g. Expandable n kept (control-lines (g .controls)) (g .target) × Below n (control-lines (g .controls)))
 
 -- ---- what is promised of a circuit made from a cascade
 

@@ -1,5 +1,5 @@
 -- The expansion of an mct gate into NOT, cn, v and vp gates, with any choice of spare lines and with those of the published order, and the table
--- of its counts (document 01, "Expansion"; document 02, order 5). Assumes nothing.
+-- of its counts (document 01, "Expansion"; document 02, orders 5 and 8). Assumes nothing.
 use mathlib.Core.Path.{_≡_}
 use mathlib.Core.Bool.{true, false, cond}
 use mathlib.Core.List.{List, [], _∷_, _++_}
@@ -59,9 +59,9 @@ unfoldable pub lines-outside : ℕ → ℕ → List ℕ → List ℕ
 lines-outside zero i l = []
 lines-outside (suc m) i l = cond (has i l) (lines-outside m (suc i) l) (i ∷ lines-outside m (suc i) l)
 
--- the spares of an mct gate: "For an mct it is all unnamed lines, rising"
-unfoldable pub mct-spares : ℕ → List ℕ → ℕ → List ℕ
-mct-spares n cs t = lines-outside n 0 (t ∷ cs)
+-- the spares of an mct gate: "For an mct it is all unnamed lines, rising"; "A kept line that an mct doesn't name is no spare of it" (order 8)
+unfoldable pub mct-spares : ℕ → List ℕ → List ℕ → ℕ → List ℕ
+mct-spares n kept cs t = lines-outside n 0 (kept ++ (t ∷ cs))
 
 -- each gate "takes the first as s" (0 where it has none)
 abbrev pub first-spare : List ℕ → ℕ
@@ -90,19 +90,19 @@ expand (suc f) sp (a ∷ b ∷ c ∷ cs) t =
 unfoldable pub expand-with : List ℕ → List ℕ → ℕ → List Gate
 expand-with sp cs t = expand (suc (length cs)) sp cs t
 
--- the expansion on n lines of the mct gate with controls cs and target t
-unfoldable pub expansion : ℕ → List ℕ → ℕ → List Gate
-expansion n cs t = expand-with (mct-spares n cs t) cs t
+-- the expansion on n lines, of which some are kept, of the mct gate with controls cs and target t
+unfoldable pub expansion : ℕ → List ℕ → List ℕ → ℕ → List Gate
+expansion n kept cs t = expand-with (mct-spares n kept cs t) cs t
 
 -- ---- which gates can be expanded
 
--- an mct gate that can be expanded on n lines: no control twice, the target another line, and one of the n lines to spare for three or more
--- controls
-pub record Expandable (n : ℕ) (cs : List ℕ) (t : ℕ) : Type 0 where
+-- an mct gate that can be expanded on n lines, of which some are kept: no control twice, the target another line, and for three or more controls
+-- one of the n lines to spare, unnamed and unkept
+pub record Expandable (n : ℕ) (kept cs : List ℕ) (t : ℕ) : Type 0 where
   pub apart : distinct cs ≡ true
   pub other : has t cs ≡ false
   pub line : t < n
-  pub unnamed-line : 3 ≤ length cs → (j : ℕ) × (j < n) × (has j (t ∷ cs) ≡ false)
+  pub spare : 3 ≤ length cs → (j : ℕ) × (j < n) × (has j (kept ++ (t ∷ cs)) ≡ false)
 
 -- ---- counts
 

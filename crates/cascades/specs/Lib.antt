@@ -4,3 +4,5 @@ pub mod Control
 pub mod Signs
 pub mod Cascade
 pub mod Spares
+pub mod Touching
+pub mod LineSets

@@ -20,5 +20,5 @@ pub data Expands± (n : ℕ) (cs : List Control) (t : ℕ) : List Gate → Type 
   signed : {c : List Gate} → Expands n (control-lines cs) t c → Expands± n cs t (between-nots (negated-lines cs) c)
 
 -- the expansion with spare lines in the published order, which no sign changes
-unfoldable pub expansion± : ℕ → List Control → ℕ → List Gate
-expansion± n cs t = between-nots (negated-lines cs) (expansion n (control-lines cs) t)
+unfoldable pub expansion± : ℕ → List ℕ → List Control → ℕ → List Gate
+expansion± n kept cs t = between-nots (negated-lines cs) (expansion n kept (control-lines cs) t)

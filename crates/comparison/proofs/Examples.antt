@@ -19,6 +19,8 @@ use Rattle.gates.specs.Reduced.{Reduced}
 use Rattle.gates.proofs.Theorem.{nf, nf-reduced, reduced-unique}
 use Rattle.meaning.specs.Pattern.{has}
 use Rattle.meaning.proofs.Flips.{both}
+use Rattle.cascades.specs.LineSets.{binary}
+use Rattle.text.specs.Heads.{head-of, line-below, unkept}
 use Rattle.text.specs.declared.Head.{Head}
 use Rattle.text.specs.declared.Kind.the-variants as kind
 use Rattle.text.specs.Refusals.{number-of}
@@ -26,7 +28,7 @@ use Rattle.text.specs.Text.{digits, spaced, one, two, word, render, rendered, c
 use Rattle.text.specs.Reading as R
 use Rattle.text.specs.Reading.{strip, second, num, tail, pair, list, many, lines-body, not-body, mct-body, powered-body, parse, whole, read, longer, cut}
 use Rattle.text.specs.Judging as J
-use Rattle.text.specs.Judging.{Judged, turned-away, accepted, belongs, most, any-from, rising, first, head-rules, rules, or-else, judge-lines, judge-text, read-all, judge}
+use Rattle.text.specs.Judging.{Judged, turned-away, accepted, belongs, most, any-from, rising, first, head-rules, rules, or-else, judge-lines, keep-rules, rest, judge-rest, judge-text, read-all, judge}
 use Rattle.text.proofs.Accepted.{judge-accepted, text-valid}
 use Rattle.text.proofs.Written.{judge-written}
 use Rattle.ordering.specs.declared.Comparison.{Comparison}
@@ -118,7 +120,7 @@ nots-valid : (n : ℕ) → AllValid 1 (replicate n (Not 0))
 nots-valid zero = tt
 nots-valid (suc n) = (valid-not {t = 0} (omega arith), nots-valid n)
 
-longest-read : judge kind.Circuit longest ≡ accepted (record { lines = 1 }) (replicate 4096 (Not 0))
+longest-read : judge kind.Circuit longest ≡ accepted (unkept 1) (replicate 4096 (Not 0))
 longest-read = judge-written 1 (replicate 4096 (Not 0)) (nots-valid 4096) (omega arith) (omega arith) (omega (arith, length-replicate 4096 (Not 0)))
 
 longest-short : length longest ≤ 60000
@@ -161,7 +163,7 @@ all-correct [] e = tt
 all-correct (r ∷ rs) e = let u = both (holds r) (all-hold rs) e in (holds-correct r (u .0), all-correct rs (u .1))
 
 pass : all-hold table ≡ true
-unfolding fits wider holds all-hold typed has strip second num tail pair R.control R.controls list many lines-body not-body mct-body powered-body parse whole read longer cut J.controls J.target J.gates belongs most any-from rising first head-rules rules or-else judge-lines judge-text read-all judge C.target slot power powered same-dec less-dec passes-dec merged free-dec turn-of turn place push nf ℕ-discrete decLt count-of then compare-numbers compare-gates dictionary compare-lists
+unfolding fits wider holds all-hold typed has strip second num tail pair R.control R.controls list many lines-body not-body mct-body powered-body parse whole read longer cut J.controls J.target J.gates belongs most any-from rising first head-rules rules or-else judge-lines head-of line-below binary keep-rules rest judge-rest judge-text read-all judge C.target slot power powered same-dec less-dec passes-dec merged free-dec turn-of turn place push nf ℕ-discrete decLt count-of then compare-numbers compare-gates dictionary compare-lists
 pass = refl
 
 -- the examples of document 02's order 1

@@ -1,5 +1,5 @@
 -- What compare says if texts are judged in another way: the definitions of now, with the judging of a text for a parameter; and that it says still,
--- of every two texts, what it said before orders 4, 5 and 6. Assumes nothing.
+-- of every two texts, what it said before orders 4, 5, 6 and 8. Assumes nothing.
 use Prim.Native.Nat.{ℕ}
 use mathlib.Core.Path.{_≡_}
 use mathlib.Core.List.{List, [], _∷_}
@@ -13,19 +13,18 @@ use Rattle.text.proofs.Unsigned as unsigned
 use Rattle.text.proofs.Signless as signless
 use Rattle.text.proofs.Lowest as lowest
 use Rattle.text.proofs.WideFirst as wide-first
+use Rattle.text.proofs.Keepless as keepless
 use Rattle.habits.specs.Habits as habits
-use Rattle.habits.specs.Habits.{Judgement, fine, _then_, Circuit, taken, told, Exit, Says}
+use Rattle.habits.specs.Habits.{Judgement, fine, _then_, Circuit, Exit, Says}
+use Rattle.habits.proofs.JudgedBy.{text-judged}
 use Rattle.comparison.specs.Compare as now
 use Rattle.comparison.specs.Compare.{Compared}
 
 module _ (judge : Kind → List ℕ → Judged) where
-  unfoldable pub text-judged : (text : ℕ) → Kind → List ℕ → List ℕ → Judgement Circuit
-  text-judged t k s rooms = taken t s rooms (told t (judge k s))
-
   unfoldable pub judged : List ℕ → ℕ → List ℕ → ℕ → Judgement (Circuit × Circuit)
   judged s k t j =
-      text-judged 1 kind.Circuit s (k ∷ []) then λ c.
-      text-judged 2 kind.Circuit t (j ∷ []) then λ d.
+      text-judged judge 1 kind.Circuit s (k ∷ []) then λ c.
+      text-judged judge 2 kind.Circuit t (j ∷ []) then λ d.
       fine (c, d)
 
   unfoldable pub Compare : (s : List ℕ) (l : List Gate) (t : List ℕ) (m : List Gate) → Exit → Type 0
@@ -47,3 +46,7 @@ lowest-compare = compare-same lowest.judge lowest.circuits-before
 -- when rule 7 was tried before rule 8
 pub wide-first-compare : (s : List ℕ) (l : List Gate) (t : List ℕ) (m : List Gate) (x : Exit) → now.Compare s l t m x ≡ Compare wide-first.judge s l t m x
 wide-first-compare = compare-same wide-first.judge wide-first.circuits-before
+
+-- before there were keep lines
+pub keepless-compare : (s : List ℕ) (l : List Gate) (t : List ℕ) (m : List Gate) (x : Exit) → now.Compare s l t m x ≡ Compare keepless.judge s l t m x
+keepless-compare = compare-same keepless.judge keepless.circuits-before

@@ -9,6 +9,7 @@ use Rattle.gates.specs.declared.Gate.{Gate}
 use Rattle.gates.specs.declared.Gate.the-variants.{Not}
 use Rattle.gates.specs.Circuit.{Linked}
 use Rattle.gates.specs.Reduced.{Reduced}
+use Rattle.text.specs.Heads.{unkept}
 use Rattle.text.specs.declared.Head.{Head}
 use Rattle.text.specs.declared.Kind.the-variants.{Circuit}
 use Rattle.ordering.specs.Comparing.{count-of, compare-lists}
@@ -75,8 +76,8 @@ pub record Ran (n : ℕ) (c : List Gate) (m : ℕ) (d : List Gate) (k : ℕ) : T
   pub list-1 : List Gate
   pub text-2 : List ℕ
   pub list-2 : List Gate
-  pub accepts-1 : Accepts Circuit text-1 (length list-1 ∷ []) (record { lines = n }) c
-  pub accepts-2 : Accepts Circuit text-2 (length list-2 ∷ []) (record { lines = m }) d
+  pub accepts-1 : Accepts Circuit text-1 (length list-1 ∷ []) (unkept n) c
+  pub accepts-2 : Accepts Circuit text-2 (length list-2 ∷ []) (unkept m) d
   pub exit : Exit
   pub says : Compare text-1 list-1 text-2 list-2 exit
   pub counted : exit .count ≡ k

@@ -12,10 +12,10 @@ use Rattle.text.specs.Refusals.{number-of}
 use Rattle.text.specs.Text.{circuit-text}
 use Rattle.writing.specs.Decimal as form
 use Rattle.jobs.specs.Jobs.{Job, mapping, reducing, takes, Output, as-text, as-count, judged-text, Entry, Exit, Says}
-use Rattle.jobs.specs.Examples.{typed, Answer, text, quote, away, Row, gives, expands, Shows, Gets, Correct, table}
+use Rattle.jobs.specs.Examples.{typed, Answer, text, quote, away, Row, gives, expands, Shows, Gets, Correct, table, kept-table}
 use Rattle.jobs.proofs.One.{says-one}
 use Rattle.jobs.proofs.Numbers.{from-1, text-count}
-use Rattle.jobs.proofs.Table.{examples}
+use Rattle.jobs.proofs.Table.{examples, kept-examples}
 use Rattle.console.specs.declared.Program.{Program}
 use Rattle.console.specs.declared.Program.the-variants.{Map, Reduce, Quote}
 use Rattle.console.specs.Output.{job-of, output-of, Prints, answer-bytes}
@@ -37,14 +37,14 @@ Puts (away r l) o = Unit {0}
 -- each program over the job that gives such an answer writes it
 abbrev pub Printed : Row → Type 0
 Printed (gives j ls a) = (p : Program) → job-of p ≡ j → Puts a (output-of p) → Prints p (typed ls) (in-bytes a)
-Printed (expands n cs t s m) = Unit {0}
+Printed (expands n kept cs t s m) = Unit {0}
 
 -- an answer within a program's area, or a refusal
 abbrev Fitting : Row → Type 0
 Fitting (gives j ls (text out g b)) = length (typed out) ≤ answer-bytes
 Fitting (gives j ls (quote g)) = Unit {0}
 Fitting (gives j ls (away r l)) = r ≡ 0 → ⊥
-Fitting (expands n cs t s m) = Unit {0}
+Fitting (expands n kept cs t s m) = Unit {0}
 
 -- ---- a run of a program's job
 
@@ -127,7 +127,7 @@ module _ (p : Program) (ls : List String) (a : Answer) (c : Correct (gives (job-
 
 row-printed : (r : Row) → Fitting r → Correct r → Printed r
 unfolding Shows Gets
-row-printed (expands n cs t s m) f c = tt
+row-printed (expands n kept cs t s m) f c = tt
 row-printed (gives j ls (text out g b)) f c = λ p k i.
     let (x, y, z) = said p ls (text out g b) (subst (λ (o : Job). Correct (gives o ls (text out g b))) (sym k) c) (holds-text p (typed out) i f) in
     prints-text p (typed ls) x y (typed out) i (z .0) (z .3)
@@ -149,3 +149,11 @@ fitting = (omega arith, (tt, (tt, (tt, (tt, (λ e. omega (arith, e), (omega arit
 -- document 01's starred examples, byte for byte
 pub printed-examples : Every Printed table
 printed-examples = rows-printed table fitting examples
+
+-- those of kept lines
+kept-fitting : Every Fitting kept-table
+unfolding typed
+kept-fitting = (λ e. omega (arith, e), (tt, (tt, (tt, (tt, (omega arith, (λ e. omega (arith, e), tt)))))))
+
+pub printed-kept : Every Printed kept-table
+printed-kept = rows-printed kept-table kept-fitting kept-examples

@@ -11,8 +11,10 @@ use Rattle.cascades.specs.Cascade.{Below}
 use Rattle.cascades.proofs.Spare.{distinct-length}
 use Rattle.cascades.proofs.Spared.{spared-m0, spared-m1, mct-spared}
 use Rattle.cascades.proofs.Counts.{length-joined}
-use Rattle.expansion.specs.Spares.{Spares, listed, Lists, SparesOf}
-use Rattle.expansion.proofs.Lines.{below-more}
+use Rattle.cascades.proofs.Halves.{below-more}
+use Rattle.spares.specs.declared.Spares.{Spares}
+use Rattle.spares.specs.Spares.{listed, Lists}
+use Rattle.expansion.specs.Spares.{SparesOf}
 
 -- what bounds the recursion does not matter, if it is more than the number of controls
 any-bound : (f g : ℕ) (sp l : List ℕ) (t : ℕ) → length l < f → length l < g → expand f sp l t ≡ expand g sp l t
@@ -84,12 +86,12 @@ split a p q l t s h e k w h-is s-is lp lq =
 
 -- ---- the spares of an mct gate
 
-pub mct-spares-of : (n : ℕ) (cs : List ℕ) (t : ℕ) (s : Spares) → n ≤ 32 → Expandable n cs t → Below n cs → Lists s 0 (length (mct-spares n cs t)) (mct-spares n cs t) → SparesOf cs t s
-mct-spares-of n cs t s few w b l =
-    let p = mct-spared n w b in
-    let long = distinct-length n (t ∷ (cs ++ mct-spares n cs t)) (p .apart) (p .below) in
+pub mct-spares-of : (n : ℕ) (kept cs : List ℕ) (t : ℕ) (s : Spares) → n ≤ 32 → Expandable n kept cs t → Below n cs → Lists s 0 (length (mct-spares n kept cs t)) (mct-spares n kept cs t) → SparesOf cs t s
+mct-spares-of n kept cs t s few w b l =
+    let p = mct-spared n kept w b in
+    let long = distinct-length n (t ∷ (cs ++ mct-spares n kept cs t)) (p .apart) (p .below) in
     record {
-      spared = rw (l .are) (record { apart = p .apart; below = below-more n 32 (t ∷ (cs ++ mct-spares n cs t)) few (p .below); enough = p .enough });
+      spared = rw (l .are) (record { apart = p .apart; below = below-more n 32 (t ∷ (cs ++ mct-spares n kept cs t)) few (p .below); enough = p .enough });
       in-order = omega (arith, l .starts);
-      room = omega (arith, l .ends, long, length-append cs (mct-spares n cs t));
+      room = omega (arith, l .ends, long, length-append cs (mct-spares n kept cs t));
     }

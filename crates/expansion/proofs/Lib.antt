@@ -1,6 +1,4 @@
 -- The laws and theorems of this crate, in reading order.
-pub mod Lines
-pub mod Marked
 pub mod SpareLists
 pub mod Circuits
 pub mod Writing

@@ -1,4 +1,3 @@
 -- The definitions of this crate, in reading order.
-pub mod Marks
 pub mod Spares
 pub mod Written

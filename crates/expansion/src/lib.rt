@@ -1,6 +1,7 @@
 // The expansion of a NOT with controls, written as numbers of gates into a lent list.
 use gates::Gate;
 use gates::encode;
+use spares::Spares;
 ghost use mathlib.Core.Path.{_≡_};
 ghost use mathlib.Core.List.{_∷_, [], _++_};
 ghost use Prim.Native.Nat.{_+_, _-_, _/_, _≤_, _<_};
@@ -8,11 +9,12 @@ ghost use lib.ListN.{length, getD, drop};
 ghost use lib.Seq.{slice};
 ghost use Rattle.gates.specs.Code.{AllCodes, gates as gates-of};
 ghost use Rattle.gates.specs.Inverse.{inverse};
-ghost use Rattle.cascades.specs.Expansion.{v, v⁺, cn, _⨾_, mct-spares, first-spare as first-of, expand-with, expansion, Expandable, counts};
+ghost use Rattle.cascades.specs.Expansion.{v, v⁺, cn, _⨾_, first-spare as first-of, expand-with, expansion, Expandable, counts};
+ghost use Rattle.cascades.specs.LineSets.{unpacked};
 ghost use Rattle.cascades.specs.Signs.{nots as nots-on, between-nots};
 ghost use Rattle.cascades.specs.Cascade.{Below};
-ghost use Rattle.expansion.specs.Marks.{marks as marks-of, unmarked};
-ghost use Rattle.expansion.specs.Spares.{listed, Lists, SparesOf};
+ghost use Rattle.spares.specs.Spares.{listed, Lists};
+ghost use Rattle.expansion.specs.Spares.{SparesOf};
 ghost use Rattle.expansion.specs.Written.{Written};
 
 // Gates for k = 0 to 15 controls.
@@ -47,61 +49,6 @@ pub fn count(k: usize) -> usize
     ensures { λ r. ⌜ r ≡ getD counts k 0 ⌝ }
 {
     wide(COUNTS[k])
-}
-
-// The lines that a gate names, each with a mark.
-fn named(controls: &[u8], target: u8) -> [bool; 32]
-    requires { ⌜ target < 32 ⌝ }
-    requires { ⌜ Below 32 (now controls) ⌝ }
-    ensures { λ r. ⌜ r ≡ marks-of (target ∷ now (controls .entry)) ⌝ }
-{
-    let mut marks = [false; 32];
-    marks[target as usize] = true;
-    let mut i = 0;
-    while i < controls.len() {
-        marks[controls[i] as usize] = true;
-        i += 1;
-    }
-    marks
-}
-
-// The spare lines of a gate, in order: those of `lines` from `first` up to `end`.
-pub struct Spares {
-    pub lines: [u8; 32],
-    pub first: usize,
-    pub end: usize,
-}
-
-// All lines without a mark, rising.
-fn unmarked_lines(marks: [bool; 32], lines: u8) -> Spares
-    requires { ⌜ lines ≤ 32 ⌝ }
-    ensures { λ r. ⌜ Lists r 0 (length (unmarked lines 0 marks)) (unmarked lines 0 marks) ⌝ }
-{
-    let mut found = [0; 32];
-    let mut count = 0;
-    let mut i = 0;
-    while i < lines {
-        if !marks[i as usize] {
-            found[count] = i;
-            count += 1;
-        }
-        i += 1;
-    }
-    Spares {
-        lines: found,
-        first: 0,
-        end: count,
-    }
-}
-
-// The spares of an mct: all lines that it names neither as control nor as target, rising.
-fn unnamed(lines: u8, controls: &[u8], target: u8) -> Spares
-    requires { ⌜ lines ≤ 32 ⌝ }
-    requires { ⌜ target < lines ⌝ }
-    requires { ⌜ Below lines (now controls) ⌝ }
-    ensures { λ r. ⌜ Lists r 0 (length (mct-spares lines (now (controls .entry)) target)) (mct-spares lines (now (controls .entry)) target) ⌝ }
-{
-    unmarked_lines(named(controls, target), lines)
 }
 
 // The spares with more lines behind them.
@@ -253,18 +200,31 @@ fn expand_with(spares: Spares, controls: &[u8], target: u8, list: &mut [u16], at
     invert(list, m1, m1_end, m3)
 }
 
-// Writes the expansion of a NOT with controls, whose spares are all unnamed lines, rising.
-pub fn expand(lines: u8, controls: &[u8], target: u8, list: &mut [u16], at: usize) -> usize
+// Writes the expansion of a NOT with controls, whose spares are all unnamed, unkept lines, rising.
+pub fn expand(
+    lines: u8,
+    kept: u32,
+    controls: &[u8],
+    target: u8,
+    list: &mut [u16],
+    at: usize,
+) -> usize
     requires { ⌜ lines ≤ 32 ⌝ }
-    requires { ⌜ Expandable lines (now controls) target ⌝ }
+    requires { ⌜ Expandable lines (unpacked 32 0 kept) (now controls) target ⌝ }
     requires { ⌜ Below lines (now controls) ⌝ }
-    requires { ⌜ at + length (expansion lines (now controls) target) ≤ length (now list) ⌝ }
-    ensures { λ r. ⌜ Written (expansion lines (now (controls .entry)) target) (now (list .entry)) at (now (list .exit)) r ⌝ }
+    requires { ⌜ at + length (expansion lines (unpacked 32 0 kept) (now controls) target) ≤ length (now list) ⌝ }
+    ensures { λ r. ⌜ Written (expansion lines (unpacked 32 0 kept) (now (controls .entry)) target) (now (list .entry)) at (now (list .exit)) r ⌝ }
 {
     if controls.len() < 3 {
         return expand_few(controls, target, list, at);
     }
-    expand_with(unnamed(lines, controls, target), controls, target, list, at)
+    expand_with(
+        spares::unnamed(lines, kept, controls, target),
+        controls,
+        target,
+        list,
+        at,
+    )
 }
 
 // Writes a NOT on each of the lines, in order.
@@ -285,6 +245,7 @@ fn nots(lines: &[u8], list: &mut [u16], at: usize) -> usize
 // signs, then the same NOTs again.
 pub fn expand_signed(
     lines: u8,
+    kept: u32,
     controls: &[u8],
     negated: &[u8],
     target: u8,
@@ -292,12 +253,12 @@ pub fn expand_signed(
     at: usize,
 ) -> usize
     requires { ⌜ lines ≤ 32 ⌝ }
-    requires { ⌜ Expandable lines (now controls) target ⌝ }
+    requires { ⌜ Expandable lines (unpacked 32 0 kept) (now controls) target ⌝ }
     requires { ⌜ Below lines (now controls) ⌝ }
-    requires { ⌜ at + length (between-nots (now negated) (expansion lines (now controls) target)) ≤ length (now list) ⌝ }
-    ensures { λ r. ⌜ Written (between-nots (now (negated .entry)) (expansion lines (now (controls .entry)) target)) (now (list .entry)) at (now (list .exit)) r ⌝ }
+    requires { ⌜ at + length (between-nots (now negated) (expansion lines (unpacked 32 0 kept) (now controls) target)) ≤ length (now list) ⌝ }
+    ensures { λ r. ⌜ Written (between-nots (now (negated .entry)) (expansion lines (unpacked 32 0 kept) (now (controls .entry)) target)) (now (list .entry)) at (now (list .exit)) r ⌝ }
 {
     let first = nots(negated, list, at);
-    let end = expand(lines, controls, target, list, first);
+    let end = expand(lines, kept, controls, target, list, first);
     nots(negated, list, end)
 }

@@ -2,7 +2,7 @@
 use mathlib.Core.List.{List, [], _∷_, _++_, map}
 use Prim.Native.Nat.{ℕ, zero, suc, _<_}
 use native.Mathlib.Omega.{arith}
-use lib.ListN.{length, take, getD}
+use lib.ListN.{length, take, drop, getD}
 use Rattle.gates.specs.Every.{Every}
 
 module _ {A : Type 0} (P : A → Type 0) where
@@ -22,6 +22,11 @@ module _ {A : Type 0} (P : A → Type 0) where
   every-take zero l h = tt
   every-take (suc i) [] h = tt
   every-take (suc i) (x ∷ l) h = (h .0, every-take i l (h .1))
+
+  pub every-drop : (i : ℕ) (l : List A) → Every P l → Every P (drop i l)
+  every-drop zero l h = h
+  every-drop (suc i) [] h = tt
+  every-drop (suc i) (x ∷ l) h = every-drop i l (h .1)
 
   pub every-at : (l : List A) (i : ℕ) (d : A) → i < length l → Every P l → P (getD l i d)
   every-at [] i d b h = absurd (omega arith)

@@ -13,6 +13,7 @@ pub mod Theorem
 pub mod ReducedLists
 pub mod Joins
 pub mod Inverses
+pub mod Forwards
 pub mod Examples
 pub mod Codes
 pub mod InvertedCodes

@@ -5,3 +5,4 @@ pub mod Yields
 pub mod Refused
 pub mod Texts
 pub mod Says
+pub mod JudgedBy

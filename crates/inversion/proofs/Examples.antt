@@ -14,12 +14,14 @@ use Rattle.gates.proofs.Pushing.{merged, passes-dec, same-dec, less-dec, free-d
 use Rattle.gates.proofs.Theorem.{nf}
 use Rattle.meaning.specs.Pattern.{has}
 use Rattle.meaning.proofs.Flips.{both}
+use Rattle.cascades.specs.LineSets.{binary}
+use Rattle.text.specs.Heads.{head-of, line-below}
 use Rattle.text.specs.declared.Kind.the-variants.{Circuit}
 use Rattle.text.specs.Text.{digits, spaced, one, two, word, render, rendered, circuit-text}
 use Rattle.text.specs.Reading as R
 use Rattle.text.specs.Reading.{strip, second, num, tail, pair, list, many, lines-body, not-body, mct-body, powered-body, parse, whole, read, longer, cut}
 use Rattle.text.specs.Judging as J
-use Rattle.text.specs.Judging.{Judged, belongs, most, any-from, rising, first, head-rules, rules, or-else, judge-lines, judge-text, read-all, judge}
+use Rattle.text.specs.Judging.{Judged, belongs, most, any-from, rising, first, head-rules, rules, or-else, judge-lines, keep-rules, rest, judge-rest, judge-text, read-all, judge}
 use Rattle.jobs.specs.Jobs.{reducing, judged, Settled}
 use Rattle.jobs.specs.Examples.{typed}
 use Rattle.jobs.proofs.Table.{judged-is, answers, fits, fits-shown}
@@ -48,7 +50,7 @@ tests-correct [] t = tt
 tests-correct (r ∷ rs) t = let u = both (test r) (tests rs) t in (test-correct r (u .0), tests-correct rs (u .1))
 
 pass : tests table ≡ true
-unfolding answers fits test tests typed has inverse-judged inverse inverted strip second num tail pair R.signed R.control R.controls list many lines-body not-body mct-body powered-body parse whole read longer cut J.controls J.target J.gates belongs most any-from rising first head-rules rules or-else judge-lines judge-text read-all judge C.target slot power powered same-dec less-dec passes-dec merged free-dec turn-of turn place push nf ℕ-discrete decLt digits spaced one two word render rendered circuit-text
+unfolding answers fits test tests typed has inverse-judged inverse inverted strip second num tail pair R.signed R.control R.controls list many lines-body not-body mct-body powered-body parse whole read longer cut J.controls J.target J.gates belongs most any-from rising first head-rules rules or-else judge-lines head-of line-below binary keep-rules rest judge-rest judge-text read-all judge C.target slot power powered same-dec less-dec passes-dec merged free-dec turn-of turn place push nf ℕ-discrete decLt digits spaced one two word render rendered circuit-text
 pass = refl
 
 pub examples : Every Correct table

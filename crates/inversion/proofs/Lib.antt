@@ -7,3 +7,4 @@ pub mod Reducing
 pub mod Demands
 pub mod Lists
 pub mod Twice
+pub mod Keepless

@@ -11,6 +11,7 @@ use Rattle.gates.proofs.Inverses.{all-valid-inverse, linked-undone, linked-redo
 use Rattle.meaning.specs.Amplitude.{doubled}
 use Rattle.meaning.specs.State.{run, powered-gates, SameAmplitude, SameMatrix}
 use Rattle.meaning.proofs.Links.{linked-matrix}
+use Rattle.text.specs.Heads.{unkept}
 use Rattle.text.specs.declared.Kind.the-variants.{Circuit}
 use Rattle.text.proofs.Accepted.{judge-accepted, text-valid}
 use Rattle.jobs.specs.Jobs.{reducing, takes, judged}
@@ -42,7 +43,7 @@ as-reduce {n} {c} a = let e = inverse-entry (a .entry) n c in
       job = reducing;
       entry = e;
       exit = a .exit;
-      head = record { lines = n };
+      head = unkept n;
       says = inverts-as (a .entry) (a .exit) (a .accepts) .0 (a .says);
       passed = accepts-judged Circuit (e .text) (length (e .list)) (inverse-accepts (a .accepts));
       lines = refl;

@@ -11,12 +11,13 @@ use Rattle.gates.specs.Inverse.{inverse}
 use Rattle.gates.proofs.Chains.{linked-sym}
 use Rattle.gates.proofs.Inverses.{all-valid-inverse, length-inverse, inverse-inverse, linked-inverse}
 use Rattle.gates.proofs.ReducedLists.{reduced-linked, reduced-all-valid, reduced-fewest}
+use Rattle.text.specs.Heads.{unkept}
 use Rattle.text.specs.declared.Head.{Head}
 use Rattle.text.specs.declared.Refusal.the-variants.{ShortList}
 use Rattle.text.specs.declared.Kind.the-variants.{Circuit}
 use Rattle.text.specs.Text.{circuit-text}
 use Rattle.text.specs.Judging.{Judged, Found, turned-away, accepted, or-else, judge}
-use Rattle.text.proofs.Accepted.{judge-accepted, text-valid, circuit-of}
+use Rattle.text.proofs.Accepted.{judge-accepted, text-valid, circuit-of, circuit-head}
 use Rattle.text.proofs.Longest.{text-length}
 use Rattle.text.proofs.Written.{judge-written}
 use Rattle.habits.proofs.Rules.{Roomy, Sizes, too-long, too-few, passing, sizes}
@@ -45,7 +46,7 @@ judged-short s records h k = go (sizes s (records ∷ []))
     go (too-few l i) = refl
     go (passing z) = absurd (k (z .room))
 
-module _ {n : ℕ} {c d : List Gate} (s t : List ℕ) (p : judge Circuit s ≡ accepted (record { lines = n }) c) (q : judge Circuit t ≡ accepted (record { lines = n }) d) (w : Linked n (inverse c) d) where
+module _ {n : ℕ} {c d : List Gate} (s t : List ℕ) (p : judge Circuit s ≡ accepted (unkept n) c) (q : judge Circuit t ≡ accepted (unkept n) d) (w : Linked n (inverse c) d) where
   -- the inverse of the one circuit is linked to the other
   back : Linked n (inverse d) c
   back = let v = text-valid (judge-accepted Circuit s p) in linked-sym (rw (inverse-inverse n c v) at (linked-inverse w))
@@ -81,12 +82,12 @@ module _ {n : ℕ} {c d : List Gate} (s t : List ℕ) (p : judge Circuit s ≡ a
 
 -- a text that was inverted: its circuit, and the list of the answer text
 pub record Inverse (e : Entry) (y : Exit) : Type 0 where
-  pub head : Head
+  pub lines : ℕ
   pub circuit : List Gate
   pub list : List Gate
-  pub judged : judge Circuit (e .text) ≡ accepted head circuit
-  pub answer : judge Circuit (take (y .bytes) (y .area)) ≡ accepted head list
-  pub linked : Linked (head .lines) (inverse circuit) list
+  pub judged : judge Circuit (e .text) ≡ accepted (unkept lines) circuit
+  pub answer : judge Circuit (take (y .bytes) (y .area)) ≡ accepted (unkept lines) list
+  pub linked : Linked lines (inverse circuit) list
 
 pub inverse-shown : (e : Entry) (y : Exit) → Invert e y → y .number ≡ 0 → Inverse e y
 inverse-shown e y s z =
@@ -95,10 +96,10 @@ inverse-shown e y s z =
     let t = judge-accepted Circuit (e .text) (i .accepts .judged) in
     let short : length r ≤ 4096 = omega (arith, reduced-fewest n (i .reduced) done, length-inverse c, t .short) in
     record {
-      head = h;
+      lines = n;
       circuit = c;
       list = r;
-      judged = i .accepts .judged;
+      judged = subst (λ (g : Head). judge Circuit (e .text) ≡ accepted g c) (circuit-head t) (i .accepts .judged);
       answer = ap (judge Circuit) (w .area-text refl) ∙ judge-written n r (reduced-all-valid n (all-valid-inverse n c (text-valid t)) (i .reduced)) (t .least) (t .largest) short;
       linked = i .reduced .linked;
     }

@@ -14,6 +14,7 @@ use Rattle.meaning.specs.Pattern.{Pattern}
 use Rattle.meaning.specs.State.{basis, run, powered-gates}
 use Rattle.text.specs.declared.Head.{Head}
 use Rattle.text.specs.declared.Kind.the-variants.{Circuit}
+use Rattle.text.specs.Heads.{unkept}
 use Rattle.text.specs.Text.{circuit-text}
 use Rattle.text.specs.Judging.{accepted, judge}
 use Rattle.habits.specs.Demands.{Refuses, Accepts}
@@ -52,7 +53,7 @@ pub record Ran (n : ℕ) (c r : List Gate) : Type 0 where
   pub entry : Entry
   pub exit : Exit
   pub says : Invert entry exit
-  pub accepts : Accepts Circuit (entry .text) (length (entry .list) ∷ []) (record { lines = n }) c
+  pub accepts : Accepts Circuit (entry .text) (length (entry .list) ∷ []) (unkept n) c
   pub listed : Listed as-text n (inverse c) exit r
 
 -- a circuit that leaves every start pattern of n lines as it was: "After m powered gates amplitude 1 is the number 2^m"
@@ -83,6 +84,6 @@ AnsweredAs s t = (l : List Gate) (a : List ℕ) (x : Exit) → Invert (record { 
 -- "the inverse of the inverse is the circuit's reduced list"
 pub record Twice : Type 0 where
   -- of any text that shows a circuit linked to the inverse of the other's
-  pub linked : {n : ℕ} {c d : List Gate} (s t : List ℕ) → judge Circuit s ≡ accepted (record { lines = n }) c → judge Circuit t ≡ accepted (record { lines = n }) d → Linked n (inverse c) d → AnsweredAs s t
+  pub linked : {n : ℕ} {c d : List Gate} (s t : List ℕ) → judge Circuit s ≡ accepted (unkept n) c → judge Circuit t ≡ accepted (unkept n) d → Linked n (inverse c) d → AnsweredAs s t
   -- so of the text that invert answers for the other
   pub answered : (e : Entry) (y : Exit) → Invert e y → y .number ≡ 0 → AnsweredAs (e .text) (take (y .bytes) (y .area))

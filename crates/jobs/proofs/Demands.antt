@@ -14,7 +14,11 @@ use Rattle.gates.specs.Reduced.{Reduced}
 use Rattle.gates.proofs.Theorem.{reduced-unique}
 use Rattle.gates.proofs.ReducedLists.{reduced-all-valid, linked-exactly-if}
 use Rattle.meaning.proofs.Links.{same-matrix-sym, reduced-matrix}
+use Rattle.meaning.specs.Pattern.{has}
+use Rattle.cascades.specs.Cascade.{Controlled, expand-all, AllExpandable, Realises}
+use Rattle.cascades.specs.Touching.{Touched, Named}
 use Rattle.cascades.proofs.Realises.{reduced-realises}
+use Rattle.cascades.proofs.Touched.{expansion-touches, list-touches, none-touches, unnamed-no-target}
 use Rattle.text.specs.declared.Refusal.{Refusal}
 use Rattle.text.specs.declared.Head.{Head}
 use Rattle.text.specs.Refusals.{number-of}
@@ -26,8 +30,9 @@ use Rattle.text.specs.Judging.{Judged, turned-away, accepted, judge}
 use Rattle.habits.specs.Habits.{left}
 use Rattle.habits.proofs.Says.{filled-first}
 use Rattle.jobs.specs.Jobs.{Job, mapping, reducing, takes, Output, as-text, as-count, output, wanted, Entry, Exit, refusal, judged, success, written, put-out, answered, Settled, Says}
-use Rattle.jobs.specs.Demands.{Gives, Listed, given, withheld, Ran, ShownCascade, ShownCircuit, Meant, Demand2, Demand3}
-use Rattle.text.proofs.Accepted.{Text, accepted-circuit, text-valid, cascade-of, circuit-of}
+use Rattle.jobs.specs.Demands.{Gives, Listed, given, withheld, Ran, KeptLines, ShownCascade, ShownCircuit, Meant, Demand2, Demand3}
+use Rattle.text.specs.Heads.{kept-lines}
+use Rattle.text.proofs.Accepted.{Text, accepted-circuit, text-valid, cascade-of, cascade-proper, circuit-of}
 use Rattle.text.proofs.Written.{gates-proper, judge-written}
 use Rattle.text.proofs.Unambiguous.{circuit-text-is, cascade-text-is}
 use Rattle.jobs.proofs.One.{Passed, judged-accepted, passed-valid}
@@ -110,7 +115,7 @@ listed-answer as-count e h c r x f w q = given (ap (λ (y : Exit). y .number) q)
 
 -- the circuit of a run, and what its job said of it
 record Answer {n : ℕ} {c r : List Gate} (a : Ran n c r) : Type 0 where
-  text : Text (takes (a .job)) n (a .entry .text) c
+  text : Text (takes (a .job)) (a .head) (a .entry .text) c
   list : List Gate
   reduced : Reduced n c list
   is : a .exit ≡ answered (a .job) (a .entry) (a .head) list
@@ -122,7 +127,7 @@ answer {n} {c} a =
     let p = judged-accepted (takes (a .job)) (a .entry) (a .passed) in
     let s = says-accepted (a .job) (a .entry) (a .exit) (a .says) (a .passed) in
     record {
-      text = rw (a .lines) at (p .text);
+      text = p .text;
       list = s .0;
       reduced = subst (λ (m : ℕ). Reduced m c (s .0)) (a .lines) (s .1);
       is = s .2;
@@ -130,7 +135,7 @@ answer {n} {c} a =
     }
 
 -- the text of a run is one that the rules let pass
-pub ran-text : {n : ℕ} {c r : List Gate} (a : Ran n c r) → Text (takes (a .job)) n (a .entry .text) c
+pub ran-text : {n : ℕ} {c r : List Gate} (a : Ran n c r) → Text (takes (a .job)) (a .head) (a .entry .text) c
 ran-text a = answer a .text
 
 pub ran-reduced : {n : ℕ} {c r : List Gate} → Ran n c r → Reduced n c r
@@ -159,24 +164,41 @@ demand-3 {n} a b = let k = linked-exactly-if n (ran-reduced a) (ran-reduced b) i
 
 -- ---- demand 2
 
-shown-cascade : {n : ℕ} {s : List ℕ} {c r : List Gate} → Text Cascade n s c → Reduced n c r → ShownCascade n s c r
-shown-cascade {n} {s} {c} {r} t w =
+-- the kept lines of a cascade
+kept-by : (n : ℕ) (kept : List ℕ) (gs : List Controlled) {c r : List Gate} → AllExpandable n kept gs → c ≡ expand-all n kept gs → Reduced n c r → Realises n gs r → KeptLines n kept gs c r
+kept-by n kept gs {c} {r} w e k q = record {
+  expansion-touches = λ i h t. expansion-touches n kept gs w i (subst (λ (d : List Gate). Touched d i) e t) h;
+  list-touches = listed;
+  untouched = λ i h u. none-touches r i (λ t. u (listed i h t));
+  old-bit = λ i h u y. q .restored y i (unnamed-no-target gs i u);
+  undisturbed = λ i b h u y x d. q .undisturbed y x i b (unnamed-no-target gs i u) d;
+}
+  where
+    listed : (i : ℕ) → has i kept ≡ true → Touched r i → Named gs i
+    listed i h t = list-touches n kept gs w (subst (λ (d : List Gate). Reduced n d r) e k) i t h
+
+shown-cascade : {h : Head} {s : List ℕ} {c r : List Gate} → Text Cascade h s c → Reduced (h .lines) c r → ShownCascade (h .lines) (kept-lines h) s c r
+shown-cascade {h} {s} {c} {r} t w =
     let k = cascade-of t in
-    let b = t .largest in
+    let n = h .lines in
+    let l = kept-lines h in
+    let q = reduced-realises n l (k .mcts) (k .ready) (subst (λ (d : List Gate). Reduced n d r) (k .expanded) w) in
     record {
       cascade = k .mcts;
       shown = k .written;
-      only = λ m gs p e. cascade-text-is n m (k .mcts) gs (omega arith, k .proper) p (sym (k .written) ∙ e);
+      only = λ m i gs p e. cascade-text-is n m l i (k .mcts) gs (cascade-proper t) p (sym (k .written) ∙ e);
       expanded = k .expanded;
-      realised = reduced-realises n (k .mcts) (k .ready) (subst (λ (d : List Gate). Reduced n d r) (k .expanded) w);
+      realised = q;
+      keeps = kept-by n l (k .mcts) (k .ready) (k .expanded) w q;
     }
 
-pub shown-circuit : {n : ℕ} {s : List ℕ} {c : List Gate} → Text Circuit n s c → ShownCircuit n s c
-shown-circuit {n} {s} {c} t =
+pub shown-circuit : {h : Head} {s : List ℕ} {c : List Gate} → Text Circuit h s c → ShownCircuit (h .lines) s c
+shown-circuit {h} {s} {c} t =
+    let n = h .lines in
     let b = t .largest in
     record { shown = circuit-of t; only = λ m d p e. circuit-text-is n m c d (omega arith, gates-proper n c b (text-valid t)) p (sym (circuit-of t) ∙ e) }
 
-meant : (k : Kind) {n : ℕ} {s : List ℕ} {c r : List Gate} → Text k n s c → Reduced n c r → Meant k n s c r
+meant : (k : Kind) {h : Head} {s : List ℕ} {c r : List Gate} → Text k h s c → Reduced (h .lines) c r → Meant k (h .lines) (kept-lines h) s c r
 unfolding Meant
 meant Cascade t w = shown-cascade t w
 meant Circuit t w = shown-circuit t
@@ -196,7 +218,7 @@ demand-2 {n} {c} {r} a =
     let w = ran-reduced a in
     let s = answer a in
     record {
-      meant = meant (takes (a .job)) (s .text) w;
+      meant = subst (λ (m : ℕ). Meant (takes (a .job)) m (kept-lines (a .head)) (a .entry .text) c r) (a .lines) (meant (takes (a .job)) (s .text) (subst (λ (m : ℕ). Reduced m c r) (sym (a .lines)) w));
       matrix = same-matrix-sym n c r (reduced-matrix n w);
       counted = λ z. gates-counted (wanted (a .job) (a .entry)) (a .entry) (a .head) (s .list) (a .exit) (s .is) z ∙ ap length (reduced-unique n (s .reduced) w);
     }

@@ -1,5 +1,5 @@
 -- What map and reduce say if texts are judged in another way: the definitions of now, with the judging of a text for a parameter. So they said it
--- before orders 4, 5 and 6. Assumes nothing.
+-- before orders 4, 5, 6 and 8. Assumes nothing.
 use Prim.Native.Nat.{ℕ}
 use mathlib.Core.Path.{_≡_}
 use mathlib.Core.List.{List, [], _∷_}

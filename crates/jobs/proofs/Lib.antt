@@ -9,6 +9,7 @@ pub mod JudgedBy
 pub mod Signless
 pub mod Lowest
 pub mod WideFirst
+pub mod Keepless
 pub mod Placement
 pub mod Table
 pub mod Handed

@@ -20,7 +20,7 @@ use Rattle.jobs.proofs.Habits.{judged-accepts}
 pub record Passed (k : Kind) (s : List ℕ) (records : ℕ) (h : Head) (c : List Gate) : Type 0 where
   pub small : length s ≤ 60000
   pub room : 4096 ≤ records
-  pub text : Text k (h .lines) s c
+  pub text : Text k h s c
 
 pub text-passed : (k : Kind) (s : List ℕ) (records : ℕ) {h : Head} {c : List Gate} → judged-text k s records ≡ accepted h c → Passed k s records h c
 text-passed k s records q = let a = judged-accepts k s records q in record { small = a .sized .small; room = a .sized .room .0; text = judge-accepted k s (a .judged) }

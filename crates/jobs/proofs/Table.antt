@@ -1,4 +1,4 @@
--- The starred examples hold, and those of negated controls, of spare lines and of rules 7 and 8. Assumes nothing.
+-- The starred examples hold, and those of negated controls, of spare lines, of rules 7 and 8 and of kept lines. Assumes nothing.
 use mathlib.Core.Path.{_≡_, refl, sym, ap, _∙_, subst}
 use mathlib.Core.Bool.{Bool, true, false, not, _&&_, true≢false}
 use mathlib.Core.List.{List, [], _∷_}
@@ -16,6 +16,7 @@ use Rattle.gates.specs.Circuit.{slot, power, powered, AllValid}
 use Rattle.meaning.specs.Pattern.{has}
 use Rattle.gates.specs.Inverse.{inverse, inverted}
 use Rattle.cascades.specs.Expansion.{_⨾_, joined, lines-outside, mct-spares, first-spare, expand, expand-with, expansion}
+use Rattle.cascades.specs.LineSets.{binary, unpacked}
 use Rattle.cascades.specs.Control.{control-lines, negated-lines}
 use Rattle.cascades.specs.Signs.{nots, between-nots, expansion±}
 use Rattle.meaning.proofs.Flips.{both}
@@ -25,12 +26,13 @@ use Rattle.text.specs.declared.Head.{Head}
 use Rattle.text.specs.Refusals.{number-of}
 use Rattle.text.specs.Text.{digits, spaced, one, two, word, render, rendered, circuit-text}
 use Rattle.text.specs.Reading as R
-use Rattle.text.specs.Reading.{strip, second, num, tail, pair, list, many, lines-body, not-body, mct-body, powered-body, parse, whole, read, longer, cut}
+use Rattle.text.specs.Reading.{strip, second, num, tail, pair, list, many, without-sign, numbers, lines-body, keep-body, not-body, mct-body, powered-body, parse, whole, read, longer, cut}
+use Rattle.text.specs.Heads.{head-of, kept-lines, line-below}
 use Rattle.text.specs.Judging as J
 use Rattle.text.specs.declared.Kind.{Kind}
-use Rattle.text.specs.Judging.{Judged, turned-away, accepted, belongs, most, any-from, rising, first, head-rules, rules, or-else, judge-lines, judge-text, read-all, judge}
+use Rattle.text.specs.Judging.{Judged, turned-away, accepted, belongs, most, any-from, rising, first, head-rules, keep-rules, rules, or-else, judge-lines, rest-by, rest, judge-rest, judge-text, read-all, judge}
 use Rattle.jobs.specs.Jobs.{Job, mapping, reducing, takes, wanted, Entry, Exit, judged, written, put-out, answered, Settled, Says}
-use Rattle.jobs.specs.Examples.{typed, Answer, text, quote, away, Row, gives, expands, Shows, Gets, Correct, table, signed-table, published-table, wide-table}
+use Rattle.jobs.specs.Examples.{typed, Answer, text, quote, away, Row, gives, expands, Shows, Gets, Correct, table, signed-table, published-table, wide-table, kept-table}
 use Rattle.jobs.proofs.Habits.{judged-sized}
 use Rattle.jobs.proofs.One.{judged-accepted, passed-valid, is-nf}
 use Rattle.jobs.proofs.Demands.{text-wanted, count-wanted, area-front, refusal-is}
@@ -41,8 +43,8 @@ unfolding judged
 judged-is k e s q h l = judged-sized k (e .text) (length (e .list)) (record { small = rw q h; room = (l, tt) }) ∙ ap (judge k) q
 
 -- the answer is computed from the normal form
-answered-nf : (j : Job) (e : Entry) {h : Head} {c r : List Gate} {x : Exit} → AllValid (h .lines) c → Reduced (h .lines) c r → x ≡ answered j e h r → x ≡ answered j e h (nf c)
-answered-nf j e {h} v w i = i ∙ ap (answered j e h) (is-nf v w)
+answered-nf : (j : Job) (e : Entry) (h : Head) {c r : List Gate} {x : Exit} → AllValid (h .lines) c → Reduced (h .lines) c r → x ≡ answered j e h r → x ≡ answered j e h (nf c)
+answered-nf j e h v w i = i ∙ ap (answered j e h) (is-nf v w)
 
 text-shown : (e : Entry) (x : Exit) (r : List Gate) (s : List ℕ) → length s ≤ length (e .area) → x ≡ written e r s → (x .number ≡ 0) × (x .gates ≡ length r) × (x .bytes ≡ length s) × (take (x .bytes) (x .area) ≡ s)
 unfolding written
@@ -77,7 +79,7 @@ fits j (turned-away r l) (away m k) = eqb (number-of r) m && eqb l k
 
 unfoldable test : Row → Bool
 test (gives j ls a) = not (ltb 60000 (length (typed ls))) && fits j (judge (takes j) (typed ls)) a
-test (expands n cs t s m) = eqb (first-spare (mct-spares n cs t)) s && eqb (length (expansion n cs t)) m
+test (expands n kept cs t s m) = eqb (first-spare (mct-spares n kept cs t)) s && eqb (length (expansion n kept cs t)) m
 
 unfoldable tests : List Row → Bool
 tests [] = true
@@ -107,7 +109,7 @@ answers-shown j e x h r (away k l) m z t = absurd (true≢false (sym t))
 -- a job that answers as j does, by what was judged
 pub fits-shown : (j : Job) (e : Entry) (x : Exit) (d : Judged) (a : Answer) → ((h : Head) (c : List Gate) → d ≡ accepted h c → AllValid (h .lines) c) → Gets a (e .area) → Settled j e d x → fits j d a ≡ true → Shows a x
 unfolding fits Shows answered Settled
-fits-shown j e x (accepted h c) a v m y t = answers-shown j e x h (nf c) a m (answered-nf j e (v h c refl) (y .1) (y .2)) t
+fits-shown j e x (accepted h c) a v m y t = answers-shown j e x h (nf c) a m (answered-nf j e h (v h c refl) (y .1) (y .2)) t
 fits-shown j e x (turned-away r l) (text out g b) v m y t = absurd (true≢false (sym t))
 fits-shown j e x (turned-away r l) (quote g) v m y t = absurd (true≢false (sym t))
 fits-shown j e x (turned-away r l) (away k i) v m y t =
@@ -121,22 +123,25 @@ test-correct (gives j ls a) t = λ e x q l m y.
     let u = both (not (ltb 60000 (length (typed ls)))) (fits j (judge (takes j) (typed ls)) a) t in
     let i = judged-is (takes j) e (typed ls) q (ltb-false 60000 (length (typed ls)) (not-true (ltb 60000 (length (typed ls))) (u .0))) l in
     fits-shown j e x (judge (takes j) (typed ls)) a (λ h c k. passed-valid (judged-accepted (takes j) e (i ∙ k))) m (subst (λ (d : Judged). Settled j e d x) i y) (u .1)
-test-correct (expands n cs t s m) h = let u = both (eqb (first-spare (mct-spares n cs t)) s) (eqb (length (expansion n cs t)) m) h in (eqb-true (first-spare (mct-spares n cs t)) s (u .0), eqb-true (length (expansion n cs t)) m (u .1))
+test-correct (expands n kept cs t s m) h = let u = both (eqb (first-spare (mct-spares n kept cs t)) s) (eqb (length (expansion n kept cs t)) m) h in (eqb-true (first-spare (mct-spares n kept cs t)) s (u .0), eqb-true (length (expansion n kept cs t)) m (u .1))
 
 tests-correct : (rs : List Row) → tests rs ≡ true → Every Correct rs
 unfolding tests
 tests-correct [] t = tt
 tests-correct (r ∷ rs) t = let u = both (test r) (tests rs) t in (test-correct r (u .0), tests-correct rs (u .1))
 
-pass : (tests table && (tests signed-table && (tests published-table && tests wide-table))) ≡ true
-unfolding answers fits test tests typed takes has inverse inverted _⨾_ joined lines-outside mct-spares expand expand-with expansion control-lines negated-lines nots between-nots expansion± strip second num tail pair R.signed R.control R.controls list many lines-body not-body mct-body powered-body parse whole read longer cut J.controls J.target J.gates belongs most any-from rising first head-rules rules or-else judge-lines judge-text read-all judge C.target slot power powered same-dec less-dec passes-dec merged free-dec turn-of turn place push nf ℕ-discrete decLt digits spaced one two word render rendered circuit-text
+pass : (tests table && (tests signed-table && (tests published-table && (tests wide-table && tests kept-table)))) ≡ true
+unfolding answers fits test tests typed takes has inverse inverted _⨾_ joined lines-outside mct-spares expand expand-with expansion control-lines negated-lines nots between-nots expansion± binary unpacked strip second num tail pair R.signed R.control R.controls list many without-sign numbers lines-body keep-body not-body mct-body powered-body parse whole read longer cut head-of kept-lines line-below J.controls J.target J.gates belongs most any-from rising first head-rules keep-rules rules or-else judge-lines rest-by rest judge-rest judge-text read-all judge C.target slot power powered same-dec less-dec passes-dec merged free-dec turn-of turn place push nf ℕ-discrete decLt digits spaced one two word render rendered circuit-text
 pass = refl
 
-pass-from-4 : (tests signed-table && (tests published-table && tests wide-table)) ≡ true
+pass-from-4 : (tests signed-table && (tests published-table && (tests wide-table && tests kept-table))) ≡ true
 pass-from-4 = both (tests table) _ pass .1
 
-pass-from-5 : (tests published-table && tests wide-table) ≡ true
+pass-from-5 : (tests published-table && (tests wide-table && tests kept-table)) ≡ true
 pass-from-5 = both (tests signed-table) _ pass-from-4 .1
+
+pass-from-6 : (tests wide-table && tests kept-table) ≡ true
+pass-from-6 = both (tests published-table) _ pass-from-5 .1
 
 -- document 01's starred examples
 pub examples : Every Correct table
@@ -152,4 +157,8 @@ published-examples = tests-correct published-table (both (tests published-table)
 
 -- those of order 6
 pub wide-examples : Every Correct wide-table
-wide-examples = tests-correct wide-table (both (tests published-table) _ pass-from-5 .1)
+wide-examples = tests-correct wide-table (both (tests wide-table) _ pass-from-6 .0)
+
+-- those of order 8
+pub kept-examples : Every Correct kept-table
+kept-examples = tests-correct kept-table (both (tests wide-table) _ pass-from-6 .1)

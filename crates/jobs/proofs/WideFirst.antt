@@ -1,4 +1,4 @@
--- Map and reduce say what they said when rule 7 was tried before rule 8: number, line, gates, bytes, every record and every byte; but for an answer
+-- Of a text without a keep line map and reduce say what they said when rule 7 was tried before rule 8: number, line, gates, bytes, every record and every byte; but for an answer
 -- at a line that meets both rules, which was 7 and is 8, and all else of it is as it was. Assumes nothing.
 use Prim.Native.Nat.{ℕ}
 use mathlib.Core.Path.{_≡_, refl, sym, ap, _∙_, subst}
@@ -13,6 +13,7 @@ use Rattle.text.specs.declared.Refusal.{Refusal}
 use Rattle.text.specs.declared.Refusal.the-variants.{TooWide, NoSpare}
 use Rattle.text.specs.Text.{circuit-text}
 use Rattle.text.specs.Judging.{Judged, turned-away, accepted, first}
+use Rattle.text.proofs.JudgedBy.{Unkept}
 use Rattle.text.proofs.WideFirst as wide-first
 use Rattle.text.proofs.WideFirst.{judge, MeetsBothAt, Became, became-next, judged-became}
 use Rattle.habits.specs.Habits.{size-rules, left}
@@ -35,9 +36,9 @@ pub data ExitBecame (j : Job) (e : Entry) : Exit → Exit → Type 0 where
   from-7-to-8 : {x : Exit} → x .number ≡ 7 → MeetsBothAt (takes j) (e .text) (x .line) → ExitBecame j e (renumbered 8 x) x
 
 -- rules 1 and 2 come first
-pub text-became : (k : Kind) (s : List ℕ) (records : ℕ) → Became (MeetsBothAt k s) (now.judged-text k s records) (judged-text judge k s records)
+pub text-became : (k : Kind) (s : List ℕ) (records : ℕ) → Unkept k s → Became (MeetsBothAt k s) (now.judged-text k s records) (judged-text judge k s records)
 unfolding now.judged-text judged-text
-text-became k s records = became-next k s (first (size-rules (length s) (records ∷ []))) 0 (omega arith) (judged-became k s)
+text-became k s records u = became-next k s (first (size-rules (length s) (records ∷ []))) 0 (omega arith) (judged-became k s u)
 
 -- ---- what is said
 
@@ -85,10 +86,10 @@ module _ (j : Job) (e : Entry) where
       go q (same m) = absurd (m (subst At (sym (refusal-is TooWide l e q .1)) v))
       go q (from-7-to-8 p w) = ap (renumbered 8) q ∙ 8-for-7 l
 
-  -- every entry: what is said now is what was said, but for 8 in place of 7 at a line that meets both rules
-  pub says-became : (x : Exit) → now.Says j e x ↔ ((y : Exit) × Says judge j e y × ExitBecame j e x y)
+  -- every entry whose text has no keep line: what is said now is what was said, but for 8 in place of 7 at a line that meets both rules
+  pub says-became : Unkept (takes j) (e .text) → (x : Exit) → now.Says j e x ↔ ((y : Exit) × Says judge j e y × ExitBecame j e x y)
   unfolding now.Says Says now.judged judged
-  says-became x = let t = text-became (takes j) (e .text) (length (e .list)) in (was-said t x, λ w. is-said t x (w .0) (w .1) (w .2))
+  says-became u x = let t = text-became (takes j) (e .text) (length (e .list)) u in (was-said t x, λ w. is-said t x (w .0) (w .1) (w .2))
 
   -- where one exit is said now, and what was said is any
   exits-became : {i d : Judged} → Became At i d → (x y : Exit) → (Settled j e i y → y ≡ x) → Settled j e i x → Settled j e d y → ExitBecame j e x y
@@ -99,18 +100,18 @@ module _ (j : Job) (e : Entry) where
       go p q = rw (p, q) (became-8 v)
 
   -- there is one exit of now and one of then for an entry
-  pub said-became : (x y : Exit) → now.Says j e x → Says judge j e y → ExitBecame j e x y
-  said-became x y s w = go s w (λ v. o .2 y v ∙ sym (o .2 x s))
+  pub said-became : Unkept (takes j) (e .text) → (x y : Exit) → now.Says j e x → Says judge j e y → ExitBecame j e x y
+  said-became k x y s w = go s w (λ v. o .2 y v ∙ sym (o .2 x s))
     where
       o : One (now.Says j e)
       o = says-one j e
 
       go : now.Says j e x → Says judge j e y → (now.Says j e y → y ≡ x) → ExitBecame j e x y
-      go v z u = exits-became (text-became (takes j) (e .text) (length (e .list))) x y (λ t. u (unfold now.Says now.judged in t)) (unfold now.Says now.judged in v) (unfold Says judged in z)
+      go v z u = exits-became (text-became (takes j) (e .text) (length (e .list)) k) x y (λ t. u (unfold now.Says now.judged in t)) (unfold now.Says now.judged in v) (unfold Says judged in z)
 
   -- it changed exactly if it was given at such a line
-  pub exit-changes : (x y : Exit) → now.Says j e x → Says judge j e y → (x ≢ y) ↔ MeetsBothAt (takes j) (e .text) (y .line)
-  exit-changes x y s w = go (said-became x y s w)
+  pub exit-changes : Unkept (takes j) (e .text) → (x y : Exit) → now.Says j e x → Says judge j e y → (x ≢ y) ↔ MeetsBothAt (takes j) (e .text) (y .line)
+  exit-changes k x y s w = go (said-became k x y s w)
     where
       go : {x y : Exit} → ExitBecame j e x y → (x ≢ y) ↔ MeetsBothAt (takes j) (e .text) (y .line)
       go (same n) = (λ c. absurd (c refl), λ m. absurd (n m))

@@ -1,17 +1,24 @@
 -- The three demands, as statements about what the jobs say. Assumes nothing.
 use Prim.Native.Nat.{ℕ, _-_, _≤_, _<_}
 use mathlib.Core.Path.{_≡_}
-use mathlib.Core.Logic.{_↔_}
-use mathlib.Core.List.{List, [], _∷_, map}
+use mathlib.Core.Logic.{_↔_, _≢_}
+use mathlib.Core.Bool.{true}
+use mathlib.Core.List.{List, [], _∷_, _++_, map}
+use Rattle.gates.specs.Every.{Every}
 use lib.ListN.{length, take, drop, replicate}
 use Rattle.gates.specs.declared.Gate.{Gate}
 use Rattle.gates.specs.declared.Gate.the-variants.{Not}
 use Rattle.gates.specs.Circuit.{Linked}
 use Rattle.gates.specs.Reduced.{Reduced}
 use Rattle.meaning.specs.State.{SameMatrix}
-use Rattle.cascades.specs.Cascade.{Controlled, expand-all, Realises}
+use Rattle.meaning.specs.Amplitude.{nought}
+use Rattle.meaning.specs.Pattern.{Pattern, has}
+use Rattle.meaning.specs.State.{run, basis}
+use Rattle.cascades.specs.Cascade.{Controlled, after, expand-all, Realises}
+use Rattle.cascades.specs.Touching.{Touches, Touched, Named}
 use Rattle.text.specs.declared.Head.{Head}
-use Rattle.text.specs.Text.{lines, gate, as-forms, AllProper, cascade-text, circuit-text}
+use Rattle.text.specs.Heads.{kept-lines, unkept}
+use Rattle.text.specs.Text.{lines, gate, as-forms, head-forms, AllProper, cascade-text, circuit-text}
 use Rattle.text.specs.declared.Kind.{Kind}
 use Rattle.text.specs.declared.Kind.the-variants.{Cascade, Circuit}
 use Rattle.text.specs.Judging.{accepted, judge}
@@ -23,7 +30,7 @@ use Rattle.jobs.specs.Jobs.{Job, takes, Output, as-text, as-count, wante
 -- "The list that map or reduce gives is the gates of its answer text, in order; the one that quote gives is the first records of its gate
 -- list, as many as the gates it counts"
 unfoldable pub Gives : Output → ℕ → Exit → List Gate → Type 0
-Gives as-text n x r = judge Circuit (take (x .bytes) (x .area)) ≡ accepted (record { lines = n }) r
+Gives as-text n x r = judge Circuit (take (x .bytes) (x .area)) ≡ accepted (unkept n) r
 Gives as-count n x r = take (x .gates) (x .list) ≡ r
 
 -- of an accepted text, the list given; "For a text that only rule 10 refuses, the same holds of the reduced list that these definitions give
@@ -96,29 +103,41 @@ pub record Demand1 (j : Job) (e : Entry) (x : Exit) : Type 0 where
 
 -- ---- demand 2: the list does what the cascade does, from every pattern
 
--- the cascade that a text shows, on n lines; the circuit c and the list r of a run on the text
-pub record ShownCascade (n : ℕ) (s : List ℕ) (c r : List Gate) : Type 0 where
+-- what the kept lines of a cascade gs on n lines have from its expansion c and from its list r (document 02, order 8)
+pub record KeptLines (n : ℕ) (kept : List ℕ) (gs : List Controlled) (c r : List Gate) : Type 0 where
+  -- "The list written touches a kept line only if some mct names it", and so does the expansion
+  pub expansion-touches : (i : ℕ) → has i kept ≡ true → Touched c i → Named gs i
+  pub list-touches : (i : ℕ) → has i kept ≡ true → Touched r i → Named gs i
+  -- so of a kept line that no mct names: no gate of the list acts on it or is controlled by it,
+  pub untouched : (i : ℕ) → has i kept ≡ true → (Named gs i → ⊥) → Every (λ g. Touches g i → ⊥) r
+  -- it has its old bit at the cascade's pattern, from every start pattern, and no pattern with another bit has a share
+  pub old-bit : (i : ℕ) → has i kept ≡ true → (Named gs i → ⊥) → (y : Pattern) → after gs y i ≡ y i
+  pub undisturbed : (i : ℕ) → i < n → has i kept ≡ true → (Named gs i → ⊥) → (y x : Pattern) → x i ≢ y i → run r (basis n y) x ≡ nought
+
+-- the cascade that a text shows, on n lines with these kept ones; the circuit c and the list r of a run on the text
+pub record ShownCascade (n : ℕ) (kept s : List ℕ) (c r : List Gate) : Type 0 where
   pub cascade : List Controlled
-  pub shown : s ≡ cascade-text n cascade
-  -- the text shows no other cascade, on no other number of lines, whose numbers have one or two digits
-  pub only : (m : ℕ) (gs : List Controlled) → AllProper (lines m ∷ as-forms gs) → s ≡ cascade-text m gs → (n ≡ m) × (cascade ≡ gs)
+  pub shown : s ≡ cascade-text n kept cascade
+  -- the text shows no other cascade, on no other number of lines, with no other kept lines, whose numbers have one or two digits
+  pub only : (m : ℕ) (l : List ℕ) (gs : List Controlled) → AllProper (head-forms m l ++ as-forms gs) → s ≡ cascade-text m l gs → (n ≡ m) × (kept ≡ l) × (cascade ≡ gs)
   -- the circuit is its expansion
-  pub expanded : c ≡ expand-all n cascade
+  pub expanded : c ≡ expand-all n kept cascade
   -- from each pattern the list ends in the cascade's pattern
   pub realised : Realises n cascade r
+  pub keeps : KeptLines n kept cascade c r
 
 -- the circuit c is the one that a text shows, on n lines, and no other
 pub record ShownCircuit (n : ℕ) (s : List ℕ) (c : List Gate) : Type 0 where
   pub shown : s ≡ circuit-text n c
   pub only : (m : ℕ) (d : List Gate) → AllProper (lines m ∷ map gate d) → s ≡ circuit-text m d → (n ≡ m) × (c ≡ d)
 
--- what the text s of a run with circuit c and list r means: map takes a cascade text, reduce a circuit text
-unfoldable pub Meant : Kind → ℕ → List ℕ → List Gate → List Gate → Type 0
-Meant Cascade n s c r = ShownCascade n s c r
-Meant Circuit n s c r = ShownCircuit n s c
+-- what the text s of a run with circuit c and list r means: map takes a cascade text, with its kept lines, reduce a circuit text
+unfoldable pub Meant : Kind → ℕ → List ℕ → List ℕ → List Gate → List Gate → Type 0
+Meant Cascade n kept s c r = ShownCascade n kept s c r
+Meant Circuit n kept s c r = ShownCircuit n s c
 
 pub record Demand2 {n : ℕ} {c r : List Gate} (a : Ran n c r) : Type 0 where
-  pub meant : Meant (takes (a .job)) n (a .entry .text) c r
+  pub meant : Meant (takes (a .job)) n (kept-lines (a .head)) (a .entry .text) c r
   -- the list has the matrix of the circuit read or expanded
   pub matrix : SameMatrix n r c
   -- the quote is the list's number of gates

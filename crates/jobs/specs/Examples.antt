@@ -1,4 +1,5 @@
--- Document 01's starred examples, as one table, and those of negated controls, of spare lines and of rules 7 and 8 (document 02, orders 4 to 6).
+-- Document 01's starred examples, as one table, and those of negated controls, of spare lines, of rules 7 and 8 and of kept lines (document 02, orders 4
+-- to 6 and 8).
 -- Assumes nothing.
 use Prim.Native.Nat.{ℕ, _≤_}
 use Prim.Native.String.{String}
@@ -22,8 +23,8 @@ pub data Answer : Type 0 where
 
 pub data Row : Type 0 where
   gives : Job → List String → Answer → Row
-  -- on n lines the gate with these controls and target: the spare line that it takes, and how many gates it expands to
-  expands : ℕ → List ℕ → ℕ → ℕ → ℕ → Row
+  -- on n lines, of which these are kept, the gate with these controls and target: the spare line that it takes, and how many gates it expands to
+  expands : ℕ → List ℕ → List ℕ → ℕ → ℕ → ℕ → Row
 
 unfoldable pub Shows : Answer → Exit → Type 0
 Shows (text ls g b) x = (x .number ≡ 0) × (x .gates ≡ g) × (x .bytes ≡ b) × (take (x .bytes) (x .area) ≡ typed ls)
@@ -39,14 +40,14 @@ Gets (away r l) a = Unit {0}
 -- whatever gate list of at least 4,096 records and such answer area is lent
 unfoldable pub Correct : Row → Type 0
 Correct (gives j ls a) = (e : Entry) (x : Exit) → e .text ≡ typed ls → 4096 ≤ length (e .list) → Gets a (e .area) → Says j e x → Shows a x
-Correct (expands n cs t s m) = (first-spare (mct-spares n cs t) ≡ s) × (length (expansion n cs t) ≡ m)
+Correct (expands n kept cs t s m) = (first-spare (mct-spares n kept cs t) ≡ s) × (length (expansion n kept cs t) ≡ m)
 
 abbrev pub table : List Row
 table =
     gives mapping ("(lines 3)" ∷ "(mct (0 1) 2)" ∷ []) (text ("(lines 3)" ∷ "(v 0 2)" ∷ "(v 1 2)" ∷ "(cn 0 1)" ∷ "(vp 1 2)" ∷ "(cn 0 1)" ∷ []) 5 53)
     ∷ gives mapping ("(lines 3)" ∷ "(mct (0 1) 2)" ∷ []) (quote 5)
     ∷ gives mapping ("(lines 3)" ∷ "(mct (0 1) 2)" ∷ "(mct (0 1) 2)" ∷ []) (quote 9)
-    ∷ expands 5 (0 ∷ 1 ∷ 2 ∷ []) 3 4 16
+    ∷ expands 5 [] (0 ∷ 1 ∷ 2 ∷ []) 3 4 16
     ∷ gives mapping ("(lines 5)" ∷ "(mct (0 1 2) 3)" ∷ []) (quote 14)
     ∷ gives mapping ("(lines 4)" ∷ "(mct (0 1 2) 3)" ∷ []) (away 8 2)
     ∷ gives reducing ("(lines 2)" ∷ "(v 0 1)" ∷ "(v 0 1)" ∷ []) (text ("(lines 2)" ∷ "(cn 0 1)" ∷ []) 1 19)
@@ -72,7 +73,7 @@ signed-table =
 -- spare lines in the published order: `(mct (0 1 2 3 4) 5)` borrows 6, and where there is a line 7 its M1 borrows that, so that more of it merges
 abbrev pub published-table : List Row
 published-table =
-    expands 8 (0 ∷ 1 ∷ 2 ∷ 3 ∷ 4 ∷ []) 5 6 46
+    expands 8 [] (0 ∷ 1 ∷ 2 ∷ 3 ∷ 4 ∷ []) 5 6 46
     ∷ gives mapping ("(lines 8)" ∷ "(mct (0 1 2 3 4) 5)" ∷ []) (quote 32)
     ∷ gives mapping ("(lines 7)" ∷ "(mct (0 1 2 3 4) 5)" ∷ []) (quote 42)
     ∷ gives mapping ("(lines 6)" ∷ "(mct (0 1 2 3 4) 5)" ∷ []) (away 8 2)
@@ -83,4 +84,17 @@ abbrev pub wide-table : List Row
 wide-table =
     gives mapping ("(lines 17)" ∷ "(mct (0 1 2 3 4 5 6 7 8 9 10 11 12 13 14 15) 16)" ∷ []) (away 8 2)
     ∷ gives mapping ("(lines 18)" ∷ "(mct (0 1 2 3 4 5 6 7 8 9 10 11 12 13 14 15) 16)" ∷ []) (away 7 2)
+    ∷ []
+
+-- kept lines: no line to spare but a kept one; a line more; a kept line that the gate names and its M1 borrows, as without the keep line; a kept line
+-- that was the first spare
+abbrev pub kept-table : List Row
+kept-table =
+    gives mapping ("(lines 5)" ∷ "(keep 4)" ∷ "(mct (0 1 2) 3)" ∷ []) (away 8 3)
+    ∷ expands 6 (4 ∷ []) (0 ∷ 1 ∷ 2 ∷ []) 3 5 16
+    ∷ gives mapping ("(lines 6)" ∷ "(keep 4)" ∷ "(mct (0 1 2) 3)" ∷ []) (quote 14)
+    ∷ gives mapping ("(lines 7)" ∷ "(keep 0)" ∷ "(mct (0 1 2 3 4) 5)" ∷ []) (quote 42)
+    ∷ gives mapping ("(lines 8)" ∷ "(keep 6)" ∷ "(mct (0 1 2 3 4) 5)" ∷ []) (quote 42)
+    ∷ gives mapping ("(lines 3)" ∷ "(keep 2)" ∷ "(mct (0) 1)" ∷ []) (text ("(lines 3)" ∷ "(cn 0 1)" ∷ []) 1 19)
+    ∷ gives reducing ("(lines 3)" ∷ "(keep 2)" ∷ "(cn 0 1)" ∷ []) (away 3 2)
     ∷ []

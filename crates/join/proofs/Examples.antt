@@ -9,11 +9,13 @@ use Rattle.gates.specs.Circuit.{slot, power, powered}
 use Rattle.gates.proofs.Pushing.{merged, passes-dec, same-dec, less-dec, free-dec, turn-of, turn, place, push}
 use Rattle.gates.proofs.Theorem.{nf}
 use Rattle.meaning.specs.Pattern.{has}
+use Rattle.cascades.specs.LineSets.{binary}
+use Rattle.text.specs.Heads.{head-of, line-below}
 use Rattle.text.specs.Text.{bytes, digits, spaced, one, two, word, render, rendered, circuit-text}
 use Rattle.text.specs.Reading as R
 use Rattle.text.specs.Reading.{strip, second, num, tail, pair, list, many, lines-body, not-body, mct-body, powered-body, parse, whole, read, longer, cut}
 use Rattle.text.specs.Judging as J
-use Rattle.text.specs.Judging.{belongs, most, any-from, rising, first, head-rules, rules, or-else, judge-lines, judge-text, read-all, judge}
+use Rattle.text.specs.Judging.{belongs, most, any-from, rising, first, head-rules, rules, or-else, judge-lines, keep-rules, rest, judge-rest, judge-text, read-all, judge}
 use Rattle.writing.specs.Decimal.{last-digits, decimal}
 use Rattle.forms.specs.Forms.{three-numbers}
 use Rattle.habits.specs.Habits.{passes, require, size-rules, taken, told, text-judged}
@@ -49,7 +51,7 @@ Printed row = Prints (typed (row .0)) (typed (row .1)) (bytes (row .2))
 
 -- each row by computing
 computed : Every Computed table
-unfolding printed-by judged plain-join require text-judged taken passes told size-rules typed has strip second num tail pair R.control R.controls list many lines-body not-body mct-body powered-body parse whole read longer cut J.controls J.target J.gates belongs most any-from rising first head-rules rules or-else judge-lines judge-text read-all judge C.target slot power powered same-dec less-dec passes-dec merged free-dec turn-of turn place push nf ℕ-discrete decLt three-numbers decimal last-digits digits spaced one two word render rendered circuit-text
+unfolding printed-by judged plain-join require text-judged taken passes told size-rules typed has strip second num tail pair R.control R.controls list many lines-body not-body mct-body powered-body parse whole read longer cut J.controls J.target J.gates belongs most any-from rising first head-rules rules or-else judge-lines head-of line-below binary keep-rules rest judge-rest judge-text read-all judge C.target slot power powered same-dec less-dec passes-dec merged free-dec turn-of turn place push nf ℕ-discrete decLt three-numbers decimal last-digits digits spaced one two word render rendered circuit-text
 computed = (refl, (refl, (refl, (refl, (refl, tt)))))
 
 -- what is computed is what the program writes

@@ -16,7 +16,7 @@ use Rattle.text.specs.declared.Refusal.{Refusal}
 use Rattle.text.specs.declared.Refusal.the-variants.{TooMany, ShortAnswer, DifferentLines}
 use Rattle.text.specs.Refusals.{number-of}
 use Rattle.text.specs.Text.{circuit-text}
-use Rattle.text.proofs.Accepted.{judge-accepted}
+use Rattle.text.proofs.Accepted.{judge-accepted, same-heads}
 use Rattle.habits.specs.Habits.{fine, away, Circuit, text-judged, Lent, Exit, Answer, filled, all-filled, refusal, success, answered}
 use Rattle.habits.specs.Demands.{Refuses, overlong, short-list, failing-line, Accepts}
 use Rattle.habits.proofs.Refused.{refuses-exactly-if, accepts-exactly-if, refuses-or-accepts}
@@ -145,7 +145,7 @@ module _ (s : List ℕ) (l : List Gate) (t a : List ℕ) (x : Exit) (says : Join
 
       by-lines : {g h : Head} {c d : List Gate} → Read s l t g c h d → Dec (g .lines ≡ h .lines) → Row
       by-lines b (no n) = row (different-lines b n)
-      by-lines {g} {h} {c} {d} b (yes e) = by-number (subst (λ (k : Head). Read s l t g c k d) (ap (λ (n : ℕ). record { lines = n }) (sym e)) b) (decLt 4096 (length c + length d))
+      by-lines {g} {h} {c} {d} b (yes e) = by-number (subst (λ (k : Head). Read s l t g c k d) (same-heads t s (b .second .judged) (b .first .judged) (sym e)) b) (decLt 4096 (length c + length d))
 
       second : {g : Head} {c : List Gate} → Accepts kind.Circuit s (length l ∷ []) g c
           → ((n : ℕ) × (i : ℕ) × Refuses kind.Circuit t [] n i) ⊎ ((h : Head) × (d : List Gate) × Accepts kind.Circuit t [] h d) → Row

@@ -17,13 +17,15 @@ use Rattle.gates.proofs.Pushing.{merged, passes-dec, same-dec, less-dec, free-d
 use Rattle.gates.proofs.Theorem.{nf, nf-reduced, reduced-unique}
 use Rattle.meaning.specs.Pattern.{has}
 use Rattle.meaning.proofs.Flips.{both}
+use Rattle.cascades.specs.LineSets.{binary}
+use Rattle.text.specs.Heads.{head-of, line-below, unkept}
 use Rattle.text.specs.declared.Kind.the-variants as kind
 use Rattle.text.specs.Refusals.{number-of}
 use Rattle.text.specs.Text.{digits, spaced, one, two, word, render, rendered, circuit-text}
 use Rattle.text.specs.Reading as R
 use Rattle.text.specs.Reading.{strip, second, num, tail, pair, list, many, lines-body, not-body, mct-body, powered-body, parse, whole, read, longer, cut}
 use Rattle.text.specs.Judging as J
-use Rattle.text.specs.Judging.{belongs, most, any-from, rising, first, head-rules, rules, or-else, judge-lines, judge-text, read-all, judge}
+use Rattle.text.specs.Judging.{belongs, most, any-from, rising, first, head-rules, rules, or-else, judge-lines, keep-rules, rest, judge-rest, judge-text, read-all, judge}
 use Rattle.text.proofs.Written.{judge-written}
 use Rattle.habits.specs.Habits as habits
 use Rattle.habits.specs.Habits.{Judgement, fine, _then_, passes, require, size-rules, taken, Circuit, told, text-judged, Lent, Exit, success, answered}
@@ -104,7 +106,7 @@ longest-short = leb-true _ _ refl
 longest-judged : text-judged 1 kind.Circuit longest (4096 ∷ []) ≡ fine longest-circuit
 longest-judged =
     let e = judge-written 1 (replicate 4096 (Not 0)) (nots-valid 4096) (omega arith) (omega arith) (omega (arith, length-replicate 4096 (Not 0))) in
-    accepts-exactly-if 1 kind.Circuit longest (4096 ∷ []) longest-circuit .0 (record { lines = 1 }, record { sized = record { small = longest-short; room = (omega arith, tt) }; judged = e }, refl)
+    accepts-exactly-if 1 kind.Circuit longest (4096 ∷ []) longest-circuit .0 (unkept 1, record { sized = record { small = longest-short; room = (omega arith, tt) }; judged = e }, refl)
 
 -- ---- the table
 
@@ -129,7 +131,7 @@ all-correct [] e = tt
 all-correct (r ∷ rs) e = let u = both (holds r) (all-hold rs) e in (holds-correct r (u .0), all-correct rs (u .1))
 
 pass : all-hold table ≡ true
-unfolding fits holds all-hold typed judged plain-join passes require size-rules taken told text-judged has strip second num tail pair R.control R.controls list many lines-body not-body mct-body powered-body parse whole read longer cut J.controls J.target J.gates belongs most any-from rising first head-rules rules or-else judge-lines judge-text read-all judge C.target slot power powered same-dec less-dec passes-dec merged free-dec turn-of turn place push nf ℕ-discrete decLt digits spaced one two word render rendered circuit-text
+unfolding fits holds all-hold typed judged plain-join passes require size-rules taken told text-judged has strip second num tail pair R.control R.controls list many lines-body not-body mct-body powered-body parse whole read longer cut J.controls J.target J.gates belongs most any-from rising first head-rules rules or-else judge-lines head-of line-below binary keep-rules rest judge-rest judge-text read-all judge C.target slot power powered same-dec less-dec passes-dec merged free-dec turn-of turn place push nf ℕ-discrete decLt digits spaced one two word render rendered circuit-text
 pass = refl
 
 -- the examples of document 02's order 7

@@ -5,4 +5,5 @@ pub mod Handed
 pub mod Demands
 pub mod Lists
 pub mod Undone
+pub mod Keepless
 pub mod Examples

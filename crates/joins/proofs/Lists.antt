@@ -12,11 +12,12 @@ use Rattle.gates.specs.Reduced.{Reduced}
 use Rattle.gates.proofs.Reach.{all-valid-append}
 use Rattle.gates.proofs.ReducedLists.{reduced-all-valid, reduced-fewest}
 use Rattle.meaning.proofs.Links.{same-matrix-sym, reduced-matrix}
+use Rattle.text.specs.Heads.{unkept}
 use Rattle.text.specs.declared.Head.{Head}
 use Rattle.text.specs.declared.Kind.the-variants as kind
 use Rattle.text.specs.Text.{circuit-text}
 use Rattle.text.specs.Judging.{judge, accepted}
-use Rattle.text.proofs.Accepted.{accepted-circuit, judge-accepted, text-valid}
+use Rattle.text.proofs.Accepted.{accepted-circuit, judge-accepted, text-valid, circuit-head}
 use Rattle.text.proofs.Written.{judge-written}
 use Rattle.habits.specs.Habits.{Judgement, Circuit, Lent, Exit, refusal, success, Says}
 use Rattle.habits.specs.Demands.{Accepts}
@@ -29,7 +30,7 @@ use Rattle.joins.proofs.Demands.{text-accepted, joins-judged, read-join
 
 module _ {n : ℕ} {c d r : List Gate} (a : Ran n c d r) where
   -- the text of the reduced list of a join shows this list
-  shown : {k : List Gate} → Joins (a .first) (a .list) (a .second) (record { lines = n }) c d k → judge kind.Circuit (circuit-text n k) ≡ accepted (record { lines = n }) k
+  shown : {k : List Gate} → Joins (a .first) (a .list) (a .second) (unkept n) c d k → judge kind.Circuit (circuit-text n k) ≡ accepted (unkept n) k
   shown {k} j =
       let v = judge-accepted kind.Circuit (a .first) (j .read .first .judged) in
       let w = judge-accepted kind.Circuit (a .second) (j .read .second .judged) in
@@ -40,7 +41,7 @@ module _ {n : ℕ} {c d r : List Gate} (a : Ran n c d r) where
   unfolding refusal success
   is-reduced = let z = read-joins (a .first) (a .list) (a .second) (a .area) (a .exit) (a .says) (a .read) (a .few) in go (z .1) (decLt _ _)
     where
-      go : {k : List Gate} → Joins (a .first) (a .list) (a .second) (record { lines = n }) c d k → Dec (length (a .area) < length (circuit-text n k)) → Reduced n (c ++ d) r
+      go : {k : List Gate} → Joins (a .first) (a .list) (a .second) (unkept n) c d k → Dec (length (a .area) < length (circuit-text n k)) → Reduced n (c ++ d) r
       go j (yes h) = a .withheld (ap (λ (y : Exit). y .number) (joins-short (a .first) (a .list) (a .second) (a .area) (a .exit) (a .says) j h))
       go {k} j (no h) =
           let z = joins-success (a .first) (a .list) (a .second) (a .area) (a .exit) (a .says) j (omega (arith, h)) in
@@ -59,7 +60,8 @@ joined-accepts : {s : List ℕ} {l : List Gate} {t : List ℕ} {g : Head} {c d :
 joined-accepts {s} {l} {t} {g} {c} {d} b h =
     let v = judge-accepted kind.Circuit s (b .first .judged) in
     let w = judge-accepted kind.Circuit t (b .second .judged) in
-    written-accepts (c ++ d) (all-valid-append (g .lines) c d (text-valid v) (text-valid w)) (v .least) (v .largest) (omega (arith, length-append c d, h)) (b .first .sized)
+    subst (λ (k : Head). Accepts kind.Circuit (circuit-text (g .lines) (c ++ d)) (length l ∷ []) k (c ++ d)) (sym (circuit-head v))
+    (written-accepts (c ++ d) (all-valid-append (g .lines) c d (text-valid v) (text-valid w)) (v .least) (v .largest) (omega (arith, length-append c d, h)) (b .first .sized))
 
 pub join-reduces : {s : List ℕ} {l : List Gate} {t : List ℕ} {g : Head} {c d : List Gate} → Read s l t g c g d → length c + length d ≤ 4096 → AnsweredAs s l t (g .lines) c d
 unfolding AnsweredAs Join Keeps takes

@@ -11,6 +11,7 @@ use Rattle.gates.specs.Inverse.{inverse}
 use Rattle.gates.proofs.Chains.{linked-trans, linked-sym, linked-before, linked-after}
 use Rattle.gates.proofs.Inverses.{linked-undone, linked-redone}
 use Rattle.gates.proofs.ReducedLists.{reduced-fewest}
+use Rattle.text.specs.Heads.{unkept}
 use Rattle.text.specs.declared.Head.{Head}
 use Rattle.text.specs.declared.Kind.the-variants as kind
 use Rattle.text.specs.Judging.{accepted, judge}
@@ -34,13 +35,13 @@ leaves-none {l} w =
     record { text = w .area-text; list = w .lists ∙ ap (λ (k : List Gate). k ∷ []) (w .list-later ∙ ap (λ (i : ℕ). replicate i (Not 0)) e) }
 
 -- two texts whose plain join is linked to no gates
-no-gates : {n : ℕ} {c d : List Gate} (s : List ℕ) (l : List Gate) (t a : List ℕ) (x : Exit) → judge kind.Circuit s ≡ accepted (record { lines = n }) c → judge kind.Circuit t ≡ accepted (record { lines = n }) d
+no-gates : {n : ℕ} {c d : List Gate} (s : List ℕ) (l : List Gate) (t a : List ℕ) (x : Exit) → judge kind.Circuit s ≡ accepted (unkept n) c → judge kind.Circuit t ≡ accepted (unkept n) d
     → Linked n (c ++ d) [] → Join s l t a x → x .number ≡ 0 → NoGates n l x
 no-gates {n} {c} {d} s l t a x p q k says e = let (g, u, v, r, j, w) = join-demand s l t a x says .success-leaves e in go j w
   where
     go : {g : Head} {u v r : List Gate} → Joins s l t g u v r → SuccessLeaves l a (g .lines) r x → NoGates n l x
     go {g} {u} {v} {r} j w =
-        let i : g ≡ record { lines = n } = accepted-head (sym (j .read .first .judged) ∙ p) in
+        let i : g ≡ unkept n = accepted-head (sym (j .read .first .judged) ∙ p) in
         let m : g .lines ≡ n = ap (λ (h : Head). h .lines) i in
         let y : u ≡ c = accepted-circuit (sym (j .read .first .judged) ∙ p) in
         let z : v ≡ d = accepted-circuit (sym (j .read .second .judged) ∙ q) in
@@ -56,7 +57,7 @@ module _ {n : ℕ} (c : List Gate) {d : List Gate} (f : AllValid n c) (k : Linke
   before-none : Linked n (d ++ c) []
   before-none = linked-trans (linked-after c f (linked-sym k)) (linked-redone c f)
 
-pub undone-linked : {n : ℕ} {c d : List Gate} (s t : List ℕ) → judge kind.Circuit s ≡ accepted (record { lines = n }) c → judge kind.Circuit t ≡ accepted (record { lines = n }) d → Linked n (inverse c) d → Cancels n s t
+pub undone-linked : {n : ℕ} {c d : List Gate} (s t : List ℕ) → judge kind.Circuit s ≡ accepted (unkept n) c → judge kind.Circuit t ≡ accepted (unkept n) d → Linked n (inverse c) d → Cancels n s t
 undone-linked {c = c} s t p q k =
     let f = text-valid (judge-accepted kind.Circuit s p) in
     record { after = λ l a x. no-gates s l t a x p q (after-none c f k); before = λ l a x. no-gates t l s a x q p (before-none c f k) }
@@ -64,5 +65,5 @@ undone-linked {c = c} s t p q k =
 pub undone : Undone
 undone = record {
   linked = undone-linked;
-  answered = λ e y s z. let i = inverse-shown e y s z in (i .head, i .circuit, i .judged, undone-linked (e .text) (take (y .bytes) (y .area)) (i .judged) (i .answer) (i .linked));
+  answered = λ e y s z. let i = inverse-shown e y s z in (unkept (i .lines), i .circuit, i .judged, undone-linked (e .text) (take (y .bytes) (y .area)) (i .judged) (i .answer) (i .linked));
 }

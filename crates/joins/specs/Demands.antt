@@ -11,6 +11,7 @@ use Rattle.gates.specs.Circuit.{Linked}
 use Rattle.gates.specs.Inverse.{inverse}
 use Rattle.gates.specs.Reduced.{Reduced}
 use Rattle.meaning.specs.State.{SameMatrix}
+use Rattle.text.specs.Heads.{unkept}
 use Rattle.text.specs.declared.Head.{Head}
 use Rattle.text.specs.declared.Kind.the-variants.{Circuit}
 use Rattle.text.specs.Text.{circuit-text}
@@ -92,9 +93,9 @@ pub record Ran (n : ℕ) (c d r : List Gate) : Type 0 where
   pub area : List ℕ
   pub exit : Exit
   pub says : Join first list second area exit
-  pub read : Read first list second (record { lines = n }) c (record { lines = n }) d
+  pub read : Read first list second (unkept n) c (unkept n) d
   pub few : length c + length d ≤ 4096
-  pub given : exit .number ≡ 0 → judge Circuit (take (exit .count) (exit .lent .area)) ≡ accepted (record { lines = n }) r
+  pub given : exit .number ≡ 0 → judge Circuit (take (exit .count) (exit .lent .area)) ≡ accepted (unkept n) r
   pub withheld : exit .number ≡ 10 → Reduced n (c ++ d) r
 
 pub record Lists {n : ℕ} {c d r : List Gate} (a : Ran n c d r) : Type 0 where
@@ -121,6 +122,6 @@ pub record Cancels (n : ℕ) (s t : List ℕ) : Type 0 where
 
 pub record Undone : Type 0 where
   -- of any two texts of which one shows a circuit that is linked to the inverse of the other's
-  pub linked : {n : ℕ} {c d : List Gate} (s t : List ℕ) → judge Circuit s ≡ accepted (record { lines = n }) c → judge Circuit t ≡ accepted (record { lines = n }) d → Linked n (inverse c) d → Cancels n s t
+  pub linked : {n : ℕ} {c d : List Gate} (s t : List ℕ) → judge Circuit s ≡ accepted (unkept n) c → judge Circuit t ≡ accepted (unkept n) d → Linked n (inverse c) d → Cancels n s t
   -- so of a text and the one that invert answers for it
   pub answered : (e : jobs.Entry) (y : jobs.Exit) → Invert e y → y .number ≡ 0 → (h : Head) × (c : List Gate) × (judge Circuit (e .text) ≡ accepted h c) × Cancels (h .lines) (e .text) (take (y .bytes) (y .area))

@@ -9,7 +9,8 @@ use Rattle.cascades.specs.declared.Control.{Control}
 use Rattle.text.specs.declared.Refusal.{Refusal}
 use Rattle.text.specs.declared.Refusal.the-variants.{Malformed}
 use Rattle.text.specs.declared.Head.{Head}
-use Rattle.text.specs.Text.{Form, lines, gate, mct}
+use Rattle.text.specs.Text.{Form, lines, keep, gate, mct}
+use Rattle.text.specs.Heads.{line-below}
 use Rattle.text.specs.Reading.{Got, got, none, parse, cut}
 use Rattle.text.specs.declared.Kind.{Kind}
 use Rattle.text.specs.declared.Kind.the-variants.{Cascade, Circuit}
@@ -26,14 +27,14 @@ use Rattle.judging.specs.Seen.{Judgement, keeps, fails, by-rules, by-for
 
 -- the judging of the lines goes on after a line that keeps the rules, and ends at one that does not
 unfoldable pub goes-on : Kind → Head → ℕ → List Gate → Judgement → Judged
-goes-on k h before c (keeps f s) = judge-lines k h (before + 1) (c ++ gates (h .lines) f) (read-all (cut s))
-goes-on k h before c (fails r) = turned-away r (before + 2)
+goes-on k h before c (keeps f s) = judge-lines k h (before + 1) (c ++ gates h f) (read-all (cut s))
+goes-on k h before c (fails r) = turned-away r (line-below h before)
 
 pub line-judged : (k : Kind) (h : Head) (before : ℕ) (c : List Gate) (b : ℕ) (s : List ℕ) → judge-lines k h before c (read-all (cut (b ∷ s))) ≡ goes-on k h before c (judge-line k h before c (b ∷ s))
 unfolding judge-line
 line-judged k h before c b s = go (parse (b ∷ s)) refl
   where
-    ruled : (f : Form) (r : List ℕ) (x : Found) → or-else x (before + 2) (judge-lines k h (before + 1) (c ++ gates (h .lines) f) (read-all (cut r))) ≡ goes-on k h before c (by-rules x f r)
+    ruled : (f : Form) (r : List ℕ) (x : Found) → or-else x (line-below h before) (judge-lines k h (before + 1) (c ++ gates h f) (read-all (cut r))) ≡ goes-on k h before c (by-rules x f r)
     ruled f r sound = unfold or-else by-rules goes-on in refl
     ruled f r (breaks x) = unfold or-else by-rules goes-on in refl
 
@@ -71,11 +72,13 @@ gate-lines = record { in-kind = in-kind; others = others }
     in-kind : (x : Got Form) {g : Gate} {s : List ℕ} → only-gate x ≡ got g s → x ≡ got (gate g) s
     in-kind none e = absurd (unfold only-gate in none-got e)
     in-kind (got (lines n) r) e = absurd (unfold only-gate in none-got e)
+    in-kind (got (keep l) r) e = absurd (unfold only-gate in none-got e)
     in-kind (got (mct cs t) r) e = absurd (unfold only-gate in none-got e)
     in-kind (got (gate g) r) e = unfold only-gate in cc
 
     others : (f : Form) (s : List ℕ) → only-gate (got f s) ≡ none → belongs Circuit f ≡ false
     others (lines n) s e = unfold belongs in refl
+    others (keep l) s e = unfold belongs in refl
     others (mct cs t) s e = unfold belongs in refl
     others (gate g) s e = absurd (unfold only-gate in none-got (sym e))
 
@@ -85,11 +88,13 @@ mct-lines = record { in-kind = in-kind; others = others }
     in-kind : (x : Got Form) {p : List Control × ℕ} {s : List ℕ} → only-mct x ≡ got p s → x ≡ got (mct (p .0) (p .1)) s
     in-kind none e = absurd (unfold only-mct in none-got e)
     in-kind (got (lines n) r) e = absurd (unfold only-mct in none-got e)
+    in-kind (got (keep l) r) e = absurd (unfold only-mct in none-got e)
     in-kind (got (gate g) r) e = absurd (unfold only-mct in none-got e)
     in-kind (got (mct cs t) r) {p} {s} e = unfold only-mct in (let q : _≡_ {A = List Control × ℕ} (cs, t) p = cc in let u : r ≡ s = cc in rw (← q, u))
 
     others : (f : Form) (s : List ℕ) → only-mct (got f s) ≡ none → belongs Cascade f ≡ false
     others (lines n) s e = unfold belongs in refl
+    others (keep l) s e = unfold belongs in refl
     others (gate g) s e = unfold belongs in refl
     others (mct cs t) s e = absurd (unfold only-mct in none-got (sym e))
 

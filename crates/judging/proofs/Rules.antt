@@ -1,13 +1,12 @@
 -- The rules of a line, as the code tries them on what it kept of the line. Assumes nothing.
 use mathlib.Core.Path.{_≡_, refl, sym, ap, _∙_}
-use mathlib.Core.Logic.{_≢_}
 use mathlib.Core.Bool.{Bool, true, false, not, _&&_, _||_, or-false, or-self}
 use mathlib.Core.List.{List, [], _∷_, _++_}
 use Prim.Native.Nat.{ℕ, _+_, _*_, _-_, _≤_, _<_}
 use native.Mathlib.Omega.{arith}
 use lib.ListN.{length, getD, length-append}
 use lib.Dec.{eqb, leb, ltb, leb→le}
-use borrow.Author.Tests.{ltb-false, leb-true, leb-false, lt-ltb, le-ltb, le-leb, lt-leb, eqb-true, eqb-false, eq-eqb, ne-eqb}
+use borrow.Author.Tests.{ltb-false, leb-true, leb-false, lt-ltb, le-ltb, le-leb, lt-leb}
 use Rattle.gates.specs.declared.Gate.{Gate}
 use Rattle.gates.specs.declared.Gate.the-variants.{Not, Powered}
 use Rattle.text.specs.declared.Refusal.{Refusal}
@@ -15,11 +14,12 @@ use Rattle.text.specs.declared.Refusal.the-variants.{NoSuchLine, Crossed, Unsor
 use Rattle.text.specs.declared.Head.{Head}
 use Rattle.text.specs.Text.{gate, mct}
 use Rattle.text.specs.declared.Kind.the-variants.{Cascade, Circuit}
+use Rattle.text.specs.Heads.{kept-lines}
 use Rattle.text.specs.Judging.{Rule, rule, first, rules, controls, target, gates, belongs, most, any-from, rising}
 use Rattle.meaning.specs.Pattern.{has}
 use Rattle.cascades.specs.declared.Control.{Control}
 use Rattle.cascades.specs.Control.{control-lines, negated-lines}
-use Rattle.cascades.specs.Expansion.{counts}
+use Rattle.cascades.specs.Expansion.{mct-spares, counts}
 use Rattle.cascades.specs.Signs.{expansion±}
 use Rattle.cascades.proofs.SignLines.{length-control-lines}
 use Rattle.cascades.proofs.Signs.{expansion±-count}
@@ -28,6 +28,8 @@ use Rattle.meaning.proofs.Flips.{neither}
 use Rattle.gathering.specs.declared.Controls.{Controls}
 use Rattle.gathering.specs.Gathering.{gathered}
 use Rattle.gathering.proofs.Gathered.{lines-are, negated-are, rising-is, largest-is, mark-is}
+use Rattle.spares.specs.Marks.{none-left}
+use Rattle.spares.proofs.Sets.{none-left-is}
 use Rattle.judging.specs.Seen.{tried, over}
 
 -- ---- one of two tests is met: the first, or else it is the second that tells
@@ -72,7 +74,7 @@ module _ (h : Head) (cs : List Control) (t before : ℕ) (c : List Gate) where
   counted = over before (length c) (length ls) (length (negated-lines cs))
 
   abbrev made : Bool
-  made = ltb 256 (before + 1) || ltb 4096 (length (c ++ expansion± (h .lines) cs t))
+  made = ltb 256 (before + 1) || ltb 4096 (length (c ++ expansion± (h .lines) (kept-lines h) cs t))
 
   -- for at most 15 controls the table and the negated ones give the expansion's count
   over-is : ltb 15 (length ls) ≡ false → counted ≡ made
@@ -80,12 +82,12 @@ module _ (h : Head) (cs : List Control) (t before : ℕ) (c : List Gate) where
   over-is w =
       let k = ltb-false 15 (length ls) w in
       let n = length-control-lines cs in
-      let e : length (c ++ expansion± (h .lines) cs t) ≡ length c + getD counts (length ls) 0 + 2 * length (negated-lines cs) =
-      rw (length-append c (expansion± (h .lines) cs t), expansion±-count (h .lines) cs t (omega (arith, k, n)), n) (omega arith) in
+      let e : length (c ++ expansion± (h .lines) (kept-lines h) cs t) ≡ length c + getD counts (length ls) 0 + 2 * length (negated-lines cs) =
+      rw (length-append c (expansion± (h .lines) (kept-lines h) cs t), expansion±-count (h .lines) (kept-lines h) cs t (omega (arith, k, n)), n) (omega arith) in
       rw (le-leb (length ls) 15 k, e)
 
   pub mct-rules : {outside crossed : Bool} → outside ≡ any-from (h .lines) (t ∷ ls) → (outside ≡ false → crossed ≡ has t ls)
-      → tried outside crossed (rising ls) (leb 3 (length ls) && eqb (h .lines) (length ls + 1)) (ltb 15 (length ls)) counted ≡ first (rules Cascade h before c (mct cs t))
+      → tried outside crossed (rising ls) (leb 3 (length ls) && eqb (length (mct-spares (h .lines) (kept-lines h) ls t)) 0) (ltb 15 (length ls)) counted ≡ first (rules Cascade h before c (mct cs t))
   unfolding rules belongs controls target gates most
   mct-rules {outside} {crossed} o x =
       after NoSuchLine outside _ _ (λ p. ap (λ (b : Bool). first (rule Crossed b ∷ later counted)) (x p) ∙ after Crossed (has t ls) _ _ (λ _. unsorted))
@@ -93,22 +95,25 @@ module _ (h : Head) (cs : List Control) (t before : ℕ) (c : List Gate) where
       ∙ unfold first in refl
     where
       later : Bool → List Rule
-      later many = rule Unsorted (not (rising ls)) ∷ rule NoSpare (leb 3 (length ls) && eqb (h .lines) (length ls + 1)) ∷ rule TooWide (ltb 15 (length ls)) ∷ rule TooMany many ∷ []
+      later many = rule Unsorted (not (rising ls)) ∷ rule NoSpare (leb 3 (length ls) && eqb (length (mct-spares (h .lines) (kept-lines h) ls t)) 0) ∷ rule TooWide (ltb 15 (length ls)) ∷ rule TooMany many ∷ []
 
       unsorted : first (later counted) ≡ first (later made)
-      unsorted = after Unsorted (not (rising ls)) _ _ (λ _. after NoSpare (leb 3 (length ls) && eqb (h .lines) (length ls + 1)) _ _ (λ _.
+      unsorted = after Unsorted (not (rising ls)) _ _ (λ _. after NoSpare (leb 3 (length ls) && eqb (length (mct-spares (h .lines) (kept-lines h) ls t)) 0) _ _ (λ _.
           after TooWide (ltb 15 (length ls)) _ _ (λ w. ap (λ (b : Bool). first (rule TooMany b ∷ [])) (over-is w))))
 
   -- the tests on what was gathered of the controls
   pub mct-tried : (total : ℕ) (a : Controls) {outside crossed spareless many : Bool} → 1 ≤ h .lines → h .lines ≤ 32 → a ≡ gathered cs → length c ≡ total
-      → outside ≡ (leb (h .lines) t || leb (h .lines) (a .largest)) → crossed ≡ getD (a .marks) t false → spareless ≡ (leb 3 (a .lines .count) && eqb (h .lines) (a .lines .count + 1)) → many ≡ over before total (a .lines .count) (a .negated .count)
+      → outside ≡ (leb (h .lines) t || leb (h .lines) (a .largest)) → crossed ≡ getD (a .marks) t false → spareless ≡ (leb 3 (a .lines .count) && none-left (h .lines) 0 (h .kept) (a .marks) t) → many ≡ over before total (a .lines .count) (a .negated .count)
       → tried outside crossed (a .rising) spareless (ltb 15 (a .lines .count)) many ≡ first (rules Cascade h before c (mct cs t))
   mct-tried total a {outside} {crossed} low high q l o x p m =
-      rw (p, m, ap (λ (b : Controls). b .lines .count) q ∙ lines-are cs .count, ap (λ (b : Controls). b .negated .count) q ∙ negated-are cs .count, ap (λ (b : Controls). b .rising) q ∙ rising-is cs, ← l)
+      rw (p, m, spares-are, ap (λ (b : Controls). b .lines .count) q ∙ lines-are cs .count, ap (λ (b : Controls). b .negated .count) q ∙ negated-are cs .count, ap (λ (b : Controls). b .rising) q ∙ rising-is cs, ← l)
       (mct-rules outside-is crossed-is)
     where
       outside-is : outside ≡ any-from (h .lines) (t ∷ ls)
       outside-is = o ∙ ap (λ (b : Controls). leb (h .lines) t || leb (h .lines) (b .largest)) q ∙ ap (λ (b : Bool). leb (h .lines) t || b) (sym (largest-is (h .lines) cs low)) ∙ unfold any-from in refl
+
+      spares-are : none-left (h .lines) 0 (h .kept) (a .marks) t ≡ eqb (length (mct-spares (h .lines) (kept-lines h) ls t)) 0
+      spares-are = unfold kept-lines in none-left-is (h .lines) (h .kept) (a .marks) ls t high (λ i b. ap (λ (x : Controls). getD (x .marks) i false) q ∙ mark-is cs i b)
 
       crossed-is : outside ≡ false → crossed ≡ has t ls
       crossed-is z =
@@ -117,15 +122,11 @@ module _ (h : Head) (cs : List Control) (t before : ℕ) (c : List Gate) where
 
 -- ---- the tests, as the code makes them
 
-pub spare-few : (n k : ℕ) → k < 3 → false ≡ (leb 3 k && eqb n (k + 1))
-spare-few n k h = rw (lt-leb 3 k h)
+pub spare-few : (k : ℕ) (b : Bool) → k < 3 → false ≡ (leb 3 k && b)
+spare-few k b h = rw (lt-leb 3 k h)
 
-pub spare-test : (n k : ℕ) → 3 ≤ k → 1 ≤ n → eqb k (n - 1) ≡ (leb 3 k && eqb n (k + 1))
-spare-test n k h l = rw (le-leb 3 k h) (go (eqb k (n - 1)) refl)
-  where
-    go : (b : Bool) → eqb k (n - 1) ≡ b → b ≡ eqb n (k + 1)
-    go true q = let e = eqb-true k (n - 1) q in sym (eq-eqb n (k + 1) (omega (arith, e, l)))
-    go false q = let d : k ≢ n - 1 = eqb-false k (n - 1) q in sym (ne-eqb n (k + 1) (λ r. d (omega (arith, r, l))))
+pub spare-test : (k : ℕ) (b : Bool) → 3 ≤ k → b ≡ (leb 3 k && b)
+spare-test k b h = rw (le-leb 3 k h)
 
 pub over-full : (before total k negated : ℕ) → 256 ≤ before → true ≡ over before total k negated
 unfolding over

@@ -1,5 +1,6 @@
 -- What the answers about a line say, in the terms of text's Judging. Assumes nothing.
 use mathlib.Core.Path.{_≡_}
+use mathlib.Core.Logic.{_≢_}
 use mathlib.Core.List.{List, [], _∷_}
 use Prim.Native.Nat.{ℕ, _+_, _*_, _≤_, _<_}
 use lib.ListN.{length, drop, getD}
@@ -15,13 +16,16 @@ use Rattle.text.specs.Text.{Form, gate, mct}
 use Rattle.text.specs.Reading.{Got, got, none, parse, cut}
 use Rattle.text.specs.declared.Kind.{Kind}
 use Rattle.text.specs.declared.Kind.the-variants.{Cascade, Circuit}
-use Rattle.text.specs.Judging.{Found, sound, breaks, rule, first, rules, turned-away, judge, judge-lines, read-all}
+use Rattle.text.specs.Heads.{unkept, line-below}
+use Rattle.text.specs.Judging.{Judged, Found, sound, breaks, rule, first, rules, turned-away, judge, judge-lines, rest, judge-rest, read-all}
 use Rattle.gathering.specs.declared.Controls.{Controls}
 use Rattle.gathering.specs.Gathering.{gathered}
 use Rattle.judging.specs.declared.Verdict.{Verdict}
 use Rattle.judging.specs.declared.Verdict.the-variants as verdict
 use Rattle.judging.specs.declared.HeadLine.{HeadLine}
 use Rattle.judging.specs.declared.HeadLine.the-variants as head-line
+use Rattle.judging.specs.declared.KeepLine.{KeepLine}
+use Rattle.judging.specs.declared.KeepLine.the-variants as keep-line
 use Rattle.judging.specs.declared.GateLine.{GateLine}
 use Rattle.judging.specs.declared.GateLine.the-variants as gate-line
 use Rattle.judging.specs.declared.TargetLine.{TargetLine}
@@ -55,9 +59,14 @@ MctVerdict h t a before total r = (cs : List Control) (c : List Gate) → a ≡ 
 
 -- ---- line 1
 
--- line 1, from a place of the text s on, has the head h and ends at `next`: the judging goes on there, whatever the kind of text
+-- what stands at a place below line 1 of a text of n lines
+unfoldable pub judge-at : Kind → ℕ → List ℕ → ℕ → Judged
+judge-at k n s at = judge-rest k n (rest k (read-all (cut (drop at s))))
+
+-- line 1, from a place of the text s on, has the head h, keeps nothing and ends at `next`: the judging goes on there, whatever the kind of text
 pub record HasHead (s : List ℕ) (at : ℕ) (h : Head) (next : ℕ) : Type 0 where
-  pub judged : (k : Kind) → judge k (drop at s) ≡ judge-lines k h 0 [] (read-all (cut (drop next s)))
+  pub judged : (k : Kind) → judge k (drop at s) ≡ judge-at k (h .lines) s next
+  pub keeps-none : h ≡ unkept (h .lines)
   pub some : 1 ≤ h .lines
   pub narrow : h .lines ≤ 32
   pub ahead : at < next
@@ -68,7 +77,24 @@ abbrev pub HeadLineOf : List ℕ → ℕ → HeadLine → Type 0
 HeadLineOf s at (head-line.Head h next) = HasHead s at h next
 HeadLineOf s at (head-line.Refused r l) = (k : Kind) → judge k (drop at s) ≡ turned-away r l
 
--- ---- a line after line 1
+-- ---- the keep line
+
+-- the line at a place of the text s is a keep line, keeps its rules, and ends at `next`: the gate lines are judged from there on, below the head h, in
+-- which some line is kept
+pub record HasKeep (s : List ℕ) (at n : ℕ) (h : Head) (next : ℕ) : Type 0 where
+  pub judged : judge-at Cascade n s at ≡ judge-lines Cascade h 0 [] (read-all (cut (drop next s)))
+  pub lines : h .lines ≡ n
+  pub some : h .kept ≢ 0
+  pub ahead : at < next
+  pub inside : next ≤ length s
+
+-- what stands at the place after line 1 of a cascade of n lines: as above; or the text is turned away; or the gate lines, with nothing kept
+abbrev pub KeepLineOf : List ℕ → ℕ → ℕ → KeepLine → Type 0
+KeepLineOf s at n (keep-line.Kept h next) = HasKeep s at n h next
+KeepLineOf s at n (keep-line.Refused r l) = judge-at Cascade n s at ≡ turned-away r l
+KeepLineOf s at n keep-line.Missing = judge-at Cascade n s at ≡ judge-lines Cascade (unkept n) 0 [] (read-all (cut (drop at s)))
+
+-- ---- a gate line
 
 -- the line at the front of a text keeps the rules, and this is its form and what comes after it; or it breaks one
 pub data Judgement : Type 0 where
@@ -93,9 +119,9 @@ seen-gate-line s (gate-line.Gate g next) = keeps (gate g) (drop next s)
 seen-gate-line s (gate-line.Refused r l) = fails r
 
 -- the place moves forward and stays within the text; a refusal has the line's number, counted from 1
-abbrev pub gate-line-ahead : List ℕ → ℕ → ℕ → GateLine → Type 0
-gate-line-ahead s at before (gate-line.Gate g next) = (at < next) × (next ≤ length s)
-gate-line-ahead s at before (gate-line.Refused r l) = l ≡ before + 2
+abbrev pub gate-line-ahead : List ℕ → ℕ → Head → ℕ → GateLine → Type 0
+gate-line-ahead s at h before (gate-line.Gate g next) = (at < next) × (next ≤ length s)
+gate-line-ahead s at h before (gate-line.Refused r l) = l ≡ line-below h before
 
 -- so the line at a place was judged, after any circuit c of `before` gates
 abbrev pub GateLineOf : List ℕ → ℕ → Head → ℕ → GateLine → Type 0
@@ -107,6 +133,6 @@ MctLineOf s at h before total a (target-line.Target t next) =
     (cs : List Control) × (a ≡ gathered cs) × ((c : List Gate) → length c ≡ total → keeps (mct cs t) (drop next s) ≡ judge-line Cascade h before c (drop at s))
 MctLineOf s at h before total a (target-line.Refused r l) = (c : List Gate) → length c ≡ total → fails r ≡ judge-line Cascade h before c (drop at s)
 
-abbrev pub mct-line-ahead : List ℕ → ℕ → ℕ → TargetLine → Type 0
-mct-line-ahead s at before (target-line.Target t next) = (at < next) × (next ≤ length s)
-mct-line-ahead s at before (target-line.Refused r l) = l ≡ before + 2
+abbrev pub mct-line-ahead : List ℕ → ℕ → Head → ℕ → TargetLine → Type 0
+mct-line-ahead s at h before (target-line.Target t next) = (at < next) × (next ≤ length s)
+mct-line-ahead s at h before (target-line.Refused r l) = l ≡ line-below h before

@@ -6,12 +6,15 @@ use reading::HeadForm;
 use reading::TargetForm;
 use text::Head;
 use text::Refusal;
+use tokens::Found;
 ghost use mathlib.Core.Path.{_≡_};
 ghost use mathlib.Core.Bool.{false, _&&_, _||_};
 ghost use Prim.Native.Nat.{_+_, _≤_};
-ghost use lib.Dec.{eqb, leb};
+ghost use lib.Dec.{leb};
 ghost use lib.ListN.{length, getD};
-ghost use Rattle.judging.specs.Seen.{seen-verdict, tried, over, GateVerdict, MctVerdict, HeadLineOf, GateLineOf, gate-line-ahead, MctLineOf, mct-line-ahead};
+ghost use Rattle.text.specs.Heads.{line-below};
+ghost use Rattle.spares.specs.Marks.{none-left};
+ghost use Rattle.judging.specs.Seen.{seen-verdict, tried, over, GateVerdict, MctVerdict, HeadLineOf, KeepLineOf, GateLineOf, gate-line-ahead, MctLineOf, mct-line-ahead};
 
 // What the rules say of a line in form.
 pub enum Verdict {
@@ -73,15 +76,15 @@ fn marked(marks: [bool; 32], t: u8) -> bool
     marks[t as usize]
 }
 
-// Whether a gate with k controls names every line and needs a spare one.
-fn no_spare(lines: u8, k: usize) -> bool
-    requires { ⌜ 1 ≤ lines ⌝ }
-    ensures { λ r. ⌜ r ≡ (leb 3 k && eqb lines (k + 1)) ⌝ }
+// Whether a gate with k controls, which have these marks, needs a spare line and has none.
+fn no_spare(head: Head, k: usize, marks: [bool; 32], t: u8) -> bool
+    requires { ⌜ head .lines ≤ 32 ⌝ }
+    ensures { λ r. ⌜ r ≡ (leb 3 k && none-left (head .lines) 0 (head .kept) marks t) ⌝ }
 {
     if k < 3 {
         return false;
     }
-    k == (lines - 1) as usize
+    spares::none_left(head.lines, head.kept, marks, t)
 }
 
 // Whether a gate with k controls, some of them negated, is the 257th, or its expansion goes past 4,096 gates: its count is read from the table,
@@ -112,9 +115,20 @@ fn mct_rules(head: Head, t: u8, a: Controls, before: usize, total: usize) -> Ver
     let outside = n <= t || n <= a.largest;
     let marks = a.marks;
     let crossed = marked(marks, t);
-    let spareless = no_spare(n, k);
+    let spareless = no_spare(head, k, marks, t);
     let many = too_many(before, total, k, negated.count);
     try_rules(outside, crossed, a.rising, spareless, 15 < k, many)
+}
+
+// The number of the line after `before` gate lines: line 1 stands above them, and the keep line, where there is one.
+fn line_number(head: Head, before: usize) -> usize
+    requires { ⌜ before ≤ 4096 ⌝ }
+    ensures { λ r. ⌜ r ≡ line-below head before ⌝ }
+{
+    if head.kept == 0 {
+        return before + 2;
+    }
+    before + 3
 }
 
 // The line answer of a circuit: its gate and the place after it, or a refusal and its line.
@@ -128,15 +142,15 @@ pub fn gate_line(s: &[u8], at: usize, head: Head, before: usize) -> GateLine
     requires { ⌜ at ≤ length (now s) ⌝ }
     requires { ⌜ before ≤ 4096 ⌝ }
     ensures { λ r. ⌜ GateLineOf (now (s .entry)) at head before r ⌝ }
-    ensures { λ r. ⌜ gate-line-ahead (now (s .entry)) at before r ⌝ }
+    ensures { λ r. ⌜ gate-line-ahead (now (s .entry)) at head before r ⌝ }
 {
     let GateForm::Is(g, next) = reading::read_gate(s, at) else {
-        return GateLine::Refused(Refusal::Malformed, before + 2);
+        return GateLine::Refused(Refusal::Malformed, line_number(head, before));
     };
     let Verdict::Breaks(r) = gate_rules(head, g, before) else {
         return GateLine::Gate(g, next);
     };
-    GateLine::Refused(r, before + 2)
+    GateLine::Refused(r, line_number(head, before))
 }
 
 // The line answer of a cascade: its target and the place after it, or a refusal and its line.
@@ -157,14 +171,14 @@ pub fn mct_line(s: &[u8], at: usize, head: Head, before: usize, total: usize) ->
     requires { ⌜ (1 ≤ head .lines) × (head .lines ≤ 32) ⌝ }
     requires { ⌜ (before ≤ 256) × (total ≤ 4096) ⌝ }
     ensures { λ r. ⌜ MctLineOf (now (s .entry)) at head before total (r .controls) (r .target) ⌝ }
-    ensures { λ r. ⌜ mct-line-ahead (now (s .entry)) at before (r .target) ⌝ }
+    ensures { λ r. ⌜ mct-line-ahead (now (s .entry)) at head before (r .target) ⌝ }
 {
     let line = reading::read_mct(s, at);
     let controls = line.controls;
     let target = line.target;
     let TargetForm::Is(t, next) = target else {
         return MctLine {
-            target: TargetLine::Refused(Refusal::Malformed, before + 2),
+            target: TargetLine::Refused(Refusal::Malformed, line_number(head, before)),
             controls,
         };
     };
@@ -175,7 +189,7 @@ pub fn mct_line(s: &[u8], at: usize, head: Head, before: usize, total: usize) ->
         };
     };
     MctLine {
-        target: TargetLine::Refused(r, before + 2),
+        target: TargetLine::Refused(r, line_number(head, before)),
         controls,
     }
 }
@@ -209,4 +223,36 @@ pub fn head_line(s: &[u8], at: usize) -> HeadLine
         return HeadLine::Refused(Refusal::NoSuchLine, 1);
     }
     HeadLine::Head(head, next)
+}
+
+// What stands at the place after line 1 of a cascade: a keep line, with the head that it makes and the place after it; a refusal and its line; or
+// no keep line.
+pub enum KeepLine {
+    Kept(Head, usize),
+    Refused(Refusal, usize),
+    Missing,
+}
+
+// The keep line at a place, below a head that keeps nothing yet.
+pub fn keep_line(s: &[u8], at: usize, head: Head) -> KeepLine
+    requires { ⌜ at ≤ length (now s) ⌝ }
+    requires { ⌜ (1 ≤ head .lines) × (head .lines ≤ 32) ⌝ }
+    ensures { λ r. ⌜ KeepLineOf (now (s .entry)) at (head .lines) r ⌝ }
+{
+    let line = reading::read_keep(s, at);
+    let numbers = line.controls;
+    let end = line.end;
+    let Found::At(next) = end else {
+        return KeepLine::Missing;
+    };
+    let n = head.lines;
+    if n <= numbers.largest {
+        return KeepLine::Refused(Refusal::NoSuchLine, 2);
+    }
+    if !numbers.rising {
+        return KeepLine::Refused(Refusal::Unsorted, 2);
+    }
+    let marks = numbers.marks;
+    let kept = spares::packed(marks);
+    KeepLine::Kept(Head { lines: n, kept }, next)
 }

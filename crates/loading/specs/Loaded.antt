@@ -1,5 +1,7 @@
 -- What loading a text leaves: the judgement of the text, and its circuit as codes. Assumes nothing.
 use mathlib.Core.Path.{_≡_}
+use mathlib.Core.Bool.{cond, _&&_}
+use lib.Dec.{eqb}
 use mathlib.Core.List.{List}
 use Prim.Native.Nat.{ℕ, _+_, _≤_, _<_}
 use lib.ListN.{length, take, drop}
@@ -9,10 +11,12 @@ use Rattle.text.specs.declared.Head.{Head}
 use Rattle.text.specs.declared.Kind.{Kind}
 use Rattle.text.specs.declared.Kind.the-variants.{Cascade, Circuit}
 use Rattle.text.specs.Reading.{cut}
+use Rattle.text.specs.Heads.{kept-lines}
 use Rattle.text.specs.Judging.{Judged, turned-away, accepted, read-all, judge-lines, judge}
 use Rattle.cascades.specs.Expansion.{expansion, Expandable}
 use Rattle.cascades.specs.Signs.{between-nots}
 use Rattle.cascades.specs.Cascade.{Below}
+use Rattle.judging.specs.Seen.{judge-at}
 use Rattle.loading.specs.declared.Progress.{Progress}
 use Rattle.loading.specs.declared.Loaded.{Loaded}
 use Rattle.loading.specs.declared.Loaded.the-variants as loaded
@@ -44,17 +48,25 @@ standing at before h m = record { place = at; lines = before; loaded = loaded.Ac
 abbrev pub refused-at : ℕ → Refusal → ℕ → Progress
 refused-at end r i = record { place = end; lines = 0; loaded = loaded.Refused r i }
 
--- what the whole text s is judged to be: the lines from the place on are judged after those that were taken
+-- what the whole text s is judged to be: the gate lines from the place on are judged after those that were taken
+abbrev pub gate-lines-from : Kind → List ℕ → ℕ → ℕ → Head → ℕ → List ℕ → Judged
+gate-lines-from k s at before h m l = judge-lines k h before (gates (take m l)) (read-all (cut (drop at s)))
+
+-- in a cascade, after no gate line and below a head that keeps nothing, a keep line may still stand first
+unfoldable pub lines-from : Kind → List ℕ → ℕ → ℕ → Head → ℕ → List ℕ → Judged
+lines-from Circuit s at before h m l = gate-lines-from Circuit s at before h m l
+lines-from Cascade s at before h m l = cond (eqb before 0 && eqb (h .kept) 0) (judge-at Cascade (h .lines) s at) (gate-lines-from Cascade s at before h m l)
+
 abbrev pub judged-on : Kind → List ℕ → ℕ → ℕ → Loaded → List ℕ → Judged
-judged-on k s at before (loaded.Accepted h m) l = judge-lines k h before (gates (take m l)) (read-all (cut (drop at s)))
+judged-on k s at before (loaded.Accepted h m) l = lines-from k s at before h m l
 judged-on k s at before (loaded.Refused r i) l = turned-away r i
 
 abbrev pub judged-from : Kind → List ℕ → Progress → List ℕ → Judged
 judged-from k s p l = judged-on k s (p .place) (p .lines) (p .loaded) l
 
--- at most 256 mct lines were taken; a line of a circuit makes one code
+-- at most 256 mct lines were taken, and none makes no code; a line of a circuit makes one code
 abbrev pub Counted : Kind → ℕ → ℕ → Type 0
-Counted Cascade before m = before ≤ 256
+Counted Cascade before m = (before ≤ 256) × (before ≡ 0 → m ≡ 0)
 Counted Circuit before m = before ≡ m
 
 -- what holds of the lines that were taken, and of the codes that they made
@@ -88,16 +100,19 @@ pub record Ready (k : Kind) (s : List ℕ) (at : ℕ) (p : Progress) (l : List �
   pub room : 4096 ≤ length l
   pub sound : Sound k s (p .place) (p .lines) (p .loaded) l
 
--- it was taken: the place moved forward, and what the text is judged to be stayed
-pub record Taken (k : Kind) (s : List ℕ) (at : ℕ) (p : Progress) (l : List ℕ) (q : Progress) (l′ : List ℕ) : Type 0 where
+-- it was taken from a text that is judged j: the place moved forward, and j is what the text is judged to be still
+pub record TakenAs (k : Kind) (j : Judged) (s : List ℕ) (at : ℕ) (q : Progress) (l′ : List ℕ) : Type 0 where
   pub forward : at < q .place
-  pub stands : Stands k (judged-from k s p l) s q l′
+  pub stands : Stands k j s q l′
+
+abbrev pub Taken : Kind → List ℕ → ℕ → Progress → List ℕ → Progress → List ℕ → Type 0
+Taken k s at p l q l′ = TakenAs k (judged-from k s p l) s at q l′
 
 -- ---- the expansion of an mct gate
 
 -- the gate with controls on the lines cs, of which these are negated, can be expanded, and its expansion written from code m on
 pub record ExpansionFits (h : Head) (t : ℕ) (cs negated : List ℕ) (m room : ℕ) : Type 0 where
   pub narrow : h .lines ≤ 32
-  pub expandable : Expandable (h .lines) cs t
+  pub expandable : Expandable (h .lines) (kept-lines h) cs t
   pub below : Below (h .lines) cs
-  pub fits : m + length (between-nots negated (expansion (h .lines) cs t)) ≤ room
+  pub fits : m + length (between-nots negated (expansion (h .lines) (kept-lines h) cs t)) ≤ room

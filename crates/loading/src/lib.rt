@@ -2,6 +2,7 @@
 use gathering::Controls;
 use judging::GateLine;
 use judging::HeadLine;
+use judging::KeepLine;
 use judging::TargetLine;
 use reader::Reader;
 use text::Head;
@@ -13,10 +14,11 @@ ghost use lib.ListN.{length, drop};
 ghost use Rattle.text.specs.declared.Kind.the-variants.{Cascade, Circuit};
 ghost use Rattle.text.specs.Judging.{judge};
 ghost use Rattle.cascades.specs.Expansion.{expansion};
+ghost use Rattle.text.specs.Heads.{kept-lines};
 ghost use Rattle.cascades.specs.Signs.{between-nots};
 ghost use Rattle.expansion.specs.Written.{Written};
 ghost use Rattle.gathering.specs.Gathering.{listed};
-ghost use Rattle.loading.specs.Loaded.{LoadsTo, standing, refused-at, Begun, Ready, Taken, ExpansionFits};
+ghost use Rattle.loading.specs.Loaded.{LoadsTo, standing, refused-at, Begun, Ready, gate-lines-from, TakenAs, Taken, ExpansionFits};
 
 // What a text is judged to be: accepted, with its head and the number of codes of its circuit; or refused, with the line.
 pub enum Loaded {
@@ -46,7 +48,7 @@ fn refused(end: usize, r: Refusal, line: usize) -> Progress
 // The line of a circuit at a place, after n gates: its gate becomes code n.
 fn next_gate(s: &[u8], at: usize, head: Head, n: usize, list: &mut [u16]) -> Progress
     requires { ⌜ Ready Circuit (now s) at (standing at n head n) (now list) ⌝ }
-    ensures { λ p. ⌜ Taken Circuit (now (s .entry)) at (standing at n head n) (now (list .entry)) p (now (list .exit)) ⌝ }
+    ensures { λ p. ⌜ TakenAs Circuit (gate-lines-from Circuit (now (s .entry)) at n head n (now (list .entry))) (now (s .entry)) at p (now (list .exit)) ⌝ }
 {
     let end = s.len();
     match judging::gate_line(s, at, head, n) {
@@ -66,7 +68,7 @@ fn next_gate(s: &[u8], at: usize, head: Head, n: usize, list: &mut [u16]) -> Pro
 fn expand_mct(head: Head, t: u8, a: Controls, list: &mut [u16], m: usize) -> usize
     requires { ⌜ (a .lines .count ≤ length (a .lines .first)) × (a .negated .count ≤ length (a .negated .first)) ⌝ }
     requires { ⌜ ExpansionFits head t (listed (a .lines)) (listed (a .negated)) m (length (now list)) ⌝ }
-    ensures { λ r. ⌜ Written (between-nots (listed (a .negated)) (expansion (head .lines) (listed (a .lines)) t)) (now (list .entry)) m (now (list .exit)) r ⌝ }
+    ensures { λ r. ⌜ Written (between-nots (listed (a .negated)) (expansion (head .lines) (kept-lines head) (listed (a .lines)) t)) (now (list .entry)) m (now (list .exit)) r ⌝ }
 {
     let lines = a.lines;
     let controls = lines.first;
@@ -74,13 +76,21 @@ fn expand_mct(head: Head, t: u8, a: Controls, list: &mut [u16], m: usize) -> usi
     let negated = a.negated;
     let signed = negated.first;
     let j = negated.count;
-    expansion::expand_signed(head.lines, &controls[..k], &signed[..j], t, list, m)
+    expansion::expand_signed(
+        head.lines,
+        head.kept,
+        &controls[..k],
+        &signed[..j],
+        t,
+        list,
+        m,
+    )
 }
 
 // The line of a cascade at a place, after `before` mct gates whose expansions are the first m codes: its own expansion stands behind them.
 fn next_mct(s: &[u8], at: usize, head: Head, before: usize, m: usize, list: &mut [u16]) -> Progress
     requires { ⌜ Ready Cascade (now s) at (standing at before head m) (now list) ⌝ }
-    ensures { λ p. ⌜ Taken Cascade (now (s .entry)) at (standing at before head m) (now (list .entry)) p (now (list .exit)) ⌝ }
+    ensures { λ p. ⌜ TakenAs Cascade (gate-lines-from Cascade (now (s .entry)) at before head m (now (list .entry))) (now (s .entry)) at p (now (list .exit)) ⌝ }
 {
     let end = s.len();
     let line = judging::mct_line(s, at, head, before, m);
@@ -96,6 +106,36 @@ fn next_mct(s: &[u8], at: usize, head: Head, before: usize, m: usize, list: &mut
             }
         }
         TargetLine::Refused(r, line) => refused(end, r, line),
+    }
+}
+
+// The line of a cascade at a place, after `before` mct gates: the first one below line 1 may be a keep line.
+fn next_of_cascade(
+    s: &[u8],
+    at: usize,
+    head: Head,
+    before: usize,
+    m: usize,
+    list: &mut [u16],
+) -> Progress
+    requires { ⌜ Ready Cascade (now s) at (standing at before head m) (now list) ⌝ }
+    ensures { λ p. ⌜ Taken Cascade (now (s .entry)) at (standing at before head m) (now (list .entry)) p (now (list .exit)) ⌝ }
+{
+    let end = s.len();
+    if before != 0 {
+        return next_mct(s, at, head, before, m, list);
+    }
+    if head.kept != 0 {
+        return next_mct(s, at, head, before, m, list);
+    }
+    match judging::keep_line(s, at, head) {
+        KeepLine::Kept(keeping, next) => Progress {
+            place: next,
+            lines: 0,
+            loaded: Loaded::Accepted(keeping, 0),
+        },
+        KeepLine::Refused(r, line) => refused(end, r, line),
+        KeepLine::Missing => next_mct(s, at, head, before, m, list),
     }
 }
 
@@ -125,7 +165,7 @@ fn next_line(kind: Kind, s: &[u8], at: usize, p: Progress, list: &mut [u16]) -> 
         return p;
     };
     match kind {
-        Kind::Cascade => next_mct(s, at, head, p.lines, m, list),
+        Kind::Cascade => next_of_cascade(s, at, head, p.lines, m, list),
         Kind::Circuit => next_gate(s, at, head, m, list),
     }
 }

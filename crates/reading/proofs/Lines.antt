@@ -1,23 +1,30 @@
 -- A line by its word: what the parser of text's Reading gives for each kind of line, told by the reader's parts. Assumes nothing.
 use mathlib.Core.Path.{_≡_, refl, sym, ap, _∙_}
+use mathlib.Core.Logic.{_≢_}
 use mathlib.Core.Bool.{Bool, true, false, cond, not, _&&_, _||_, and-eq-true-iff}
 use mathlib.Core.List.{List, [], _∷_}
 use native.Mathlib.Omega.{arith}
 use Prim.Native.Nat.{ℕ, _≤_}
 use lib.Dec.{eqb}
-use borrow.Author.Tests.{eq-eqb, eqb-true}
+use lib.ListN.{length, drop}
+use borrow.Author.Tests.{eq-eqb, ne-eqb, eqb-true}
 use Rattle.gates.specs.declared.Gate.{Gate}
 use Rattle.gates.specs.declared.Gate.the-variants.{Not, Powered}
 use Rattle.cascades.specs.declared.Control.{Control}
-use Rattle.text.specs.Text.{Form, lines, gate, mct, bytes}
-use Rattle.text.specs.Reading.{Got, got, none, bind, if-got, strip, num, tail, pair, with-sign, signed, control, list, many, lines-body, not-body, mct-body, powered-body, parse}
-use Rattle.text.proofs.Printed.{none-got}
+use Rattle.cascades.specs.Control.{control-lines, negated-lines}
+use Rattle.text.specs.Text.{Form, lines, keep, gate, mct, bytes}
+use Rattle.text.specs.Heads.{unkept}
+use Rattle.text.specs.Reading.{Got, got, none, bind, if-got, strip, num, tail, pair, with-sign, signed, control, controls, list, many, without-sign, numbers, lines-body, keep-body, not-body, mct-body, powered-body, parse}
+use Rattle.text.proofs.Printed.{none-got, no-signs}
+use Rattle.gathering.proofs.Gathered.{negated-are}
 use Rattle.gathering.specs.declared.Controls.{Controls}
 use Rattle.reading.specs.declared.ControlForm.{ControlForm}
 use Rattle.reading.specs.declared.ControlForm.the-variants as control-form
-use Rattle.tokens.specs.Seen.{delimited}
+use Rattle.tokens.specs.declared.Found.{Found}
+use Rattle.tokens.specs.declared.Found.the-variants as found
+use Rattle.tokens.specs.Seen.{delimited, found-tells}
 use Rattle.gathering.specs.Gathering.{gathered}
-use Rattle.reading.specs.Seen.{control-tells, only-head, only-gate, only-mct, all-gathered, with-gathered, followed, two-after, or-powered}
+use Rattle.reading.specs.Seen.{control-tells, only-head, only-keep, only-gate, only-mct, all-gathered, with-gathered, kept-gathered, followed, two-after, or-powered}
 
 -- ---- a text begins with at most one of two words that differ at a place that both have
 
@@ -152,6 +159,7 @@ module _ {B : Type 0} (only : Got Form → Got B) (missing : only none ≡ none)
   rows : Rows B
   rows =
       (bytes "(lines ", kept tail lines)
+      ∷ (bytes "(keep ", kept numbers keep)
       ∷ (bytes "(not ", kept tail (λ t. gate (Not t)))
       ∷ (bytes "(cn ", kept pair (powered 2))
       ∷ (bytes "(v ", kept pair (powered 1))
@@ -171,14 +179,15 @@ module _ {B : Type 0} (only : Got Form → Got B) (missing : only none ≡ none)
   last-row none p form = missing
 
   only-parse : (s : List ℕ) → only (parse s) ≡ by-line rows s
-  unfolding parse rows by-word apart others differ lines-body not-body powered-body mct-body
+  unfolding parse rows by-word apart others differ lines-body keep-body not-body powered-body mct-body
   only-parse s =
       row (strip (bytes "(lines ") s) tail lines
+      (row (strip (bytes "(keep ") s) numbers keep
       (row (strip (bytes "(not ") s) tail (λ t. gate (Not t))
       (row (strip (bytes "(cn ") s) pair (powered 2)
       (row (strip (bytes "(v ") s) pair (powered 1)
       (row (strip (bytes "(vp ") s) pair (powered 3)
-      (last-row (strip (bytes "(mct (") s) many (λ p. mct (p .0) (p .1)))))))
+      (last-row (strip (bytes "(mct (") s) many (λ p. mct (p .0) (p .1))))))))
       ∙ word-line rows s refl
 
 -- a row of another kind
@@ -199,9 +208,46 @@ own-row {A} (got a s) p k z = go (p s)
     go none = refl
 own-row none p k z = refl
 
-pub head-is : (s : List ℕ) → only-head (parse s) ≡ if-got (delimited (bytes "(lines ") (bytes ")\n") s) (λ n. got (record { lines = n })) none
+pub head-is : (s : List ℕ) → only-head (parse s) ≡ if-got (delimited (bytes "(lines ") (bytes ")\n") s) (λ n. got (unkept n)) none
 unfolding only-head by-line rows delimited tail
 head-is s = only-parse only-head refl s ∙ simp (other-row, own-row)
+
+-- numbers that were gathered, where none of them has a sign
+abbrev pub unsigned-gathered : Controls → List ℕ → Got Controls
+unsigned-gathered a s = cond (eqb (a .negated .count) 0) (got a s) none
+
+numbers-gathered : (s : List ℕ) → kept-gathered (numbers s) ≡ bind (all-gathered (controls (length s) s)) (λ a r. bind (strip (bytes "\n") r) (λ _. unsigned-gathered a))
+unfolding numbers all-gathered without-sign kept-gathered
+numbers-gathered s =
+    steps _ (controls (length s) s) _ _ (λ cs r. steps _ (strip (bytes "\n") r) _ _ (λ _ q. signs cs q))
+    ∙ sym (steps _ (controls (length s) s) _ _ (λ cs r. refl))
+  where
+    signs : (cs : List Control) (q : List ℕ) → kept-gathered (without-sign cs q) ≡ unsigned-gathered (gathered cs) q
+    signs cs q = go (eqb (length (negated-lines cs)) 0) refl ∙ ap (λ (n : ℕ). cond (eqb n 0) (got (gathered cs) q) none) (sym (negated-are cs .count))
+      where
+        go : (b : Bool) → eqb (length (negated-lines cs)) 0 ≡ b → kept-gathered (cond b (got (control-lines cs) q) none) ≡ cond b (got (gathered cs) q) none
+        go true e = let w = no-signs cs (eqb-true (length (negated-lines cs)) 0 e) in ap (λ (ds : List Control). got (gathered ds) q) (sym w)
+        go false e = refl
+
+pub keep-is : (s : List ℕ) → kept-gathered (only-keep (parse s)) ≡ bind (strip (bytes "(keep ") s) (λ _ r. bind (all-gathered (controls (length r) r)) (λ a q. bind (strip (bytes "\n") q) (λ _. unsigned-gathered a)))
+unfolding only-keep by-line rows kept-gathered
+keep-is s = only-parse (λ g. kept-gathered (only-keep g)) refl s ∙ simp other-row (or-none _ ∙ below (λ g. g) refl (strip (bytes "(keep ") s) _ _ (λ _ r. numbers-gathered r))
+
+-- the numbers were gathered: a sign is not in form, whatever comes after them; without one the line's end decides
+module _ (s : List ℕ) (at : ℕ) {r : List ℕ} {a : Controls} (q : ℕ) (k : strip (bytes "(keep ") (drop at s) ≡ got tt r) (g : all-gathered (controls (length r) r) ≡ got a (drop q s)) where
+  keep-ends : kept-gathered (only-keep (parse (drop at s))) ≡ bind (strip (bytes "\n") (drop q s)) (λ _. unsigned-gathered a)
+  keep-ends = keep-is (drop at s) ∙ rw (k, g)
+
+  pub keep-signed : a .negated .count ≢ 0 → kept-gathered (only-keep (parse (drop at s))) ≡ none
+  keep-signed n = keep-ends ∙ go (strip (bytes "\n") (drop q s))
+    where
+      go : (x : Got (Unit {0})) → bind x (λ _. unsigned-gathered a) ≡ none
+      go (got u t) = rw (ne-eqb (a .negated .count) 0 n)
+      go none = refl
+
+  pub keep-found : a .negated .count ≡ 0 → at ≤ q → (f : Found) → found-tells s q (strip (bytes "\n") (drop q s)) tt f → found-tells s at (kept-gathered (only-keep (parse (drop at s)))) a f
+  keep-found z h (found.At next) w = (keep-ends ∙ rw (w .0, eq-eqb (a .negated .count) 0 z), omega (arith, h, w .1), w .2)
+  keep-found z h found.Missing w = keep-ends ∙ rw w
 
 -- three rows of the kind, the first got before the others are tried
 in-turn : {B : Type 0} (x y z : Got B) → if-got x got (if-got y got (if-got z got none)) ≡ if-got (if-got x got y) got z

@@ -8,7 +8,8 @@ use Rattle.gates.specs.declared.Gate.{Gate}
 use Rattle.gates.specs.declared.Gate.the-variants.{Powered}
 use Rattle.cascades.specs.declared.Control.{Control}
 use Rattle.text.specs.declared.Head.{Head}
-use Rattle.text.specs.Text.{Form, lines, gate, mct, bytes}
+use Rattle.text.specs.Text.{Form, lines, keep, gate, mct, unsigned, bytes}
+use Rattle.text.specs.Heads.{unkept}
 use Rattle.text.specs.Reading.{Got, got, none, bind, if-got, strip, with-sign, pair}
 use Rattle.tokens.specs.Seen.{ahead, reached}
 use Rattle.gathering.specs.declared.Controls.{Controls}
@@ -29,19 +30,29 @@ use Rattle.reading.specs.declared.HeadForm.the-variants as head-form
 
 unfoldable pub only-head : Got Form → Got Head
 only-head none = none
-only-head (got (lines n) s) = got (record { lines = n }) s
+only-head (got (lines n) s) = got (unkept n) s
+only-head (got (keep l) s) = none
 only-head (got (gate g) s) = none
 only-head (got (mct cs t) s) = none
+
+unfoldable pub only-keep : Got Form → Got (List ℕ)
+only-keep none = none
+only-keep (got (lines n) s) = none
+only-keep (got (keep l) s) = got l s
+only-keep (got (gate g) s) = none
+only-keep (got (mct cs t) s) = none
 
 unfoldable pub only-gate : Got Form → Got Gate
 only-gate none = none
 only-gate (got (lines n) s) = none
+only-gate (got (keep l) s) = none
 only-gate (got (gate g) s) = got g s
 only-gate (got (mct cs t) s) = none
 
 unfoldable pub only-mct : Got Form → Got (List Control × ℕ)
 only-mct none = none
 only-mct (got (lines n) s) = none
+only-mct (got (keep l) s) = none
 only-mct (got (gate g) s) = none
 only-mct (got (mct cs t) s) = got (cs, t) s
 
@@ -49,6 +60,10 @@ only-mct (got (mct cs t) s) = got (cs, t) s
 
 unfoldable pub all-gathered : Got (List Control) → Got Controls
 all-gathered g = bind g (λ cs. got (gathered cs))
+
+-- the numbers of a keep line, gathered as controls without a sign
+unfoldable pub kept-gathered : Got (List ℕ) → Got Controls
+kept-gathered g = bind g (λ l. got (gathered (unsigned l)))
 
 unfoldable pub with-gathered : Got (List Control × ℕ) → Got (Controls × ℕ)
 with-gathered none = none

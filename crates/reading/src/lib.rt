@@ -3,7 +3,7 @@ ghost use mathlib.Core.Path.{_≡_};
 ghost use Prim.Native.Nat.{_≤_};
 ghost use lib.ListN.{length, drop};
 ghost use Rattle.text.specs.Reading.{control, controls, list, parse};
-ghost use Rattle.reading.specs.Seen.{only-head, only-gate, only-mct, all-gathered, with-gathered, followed, two-after, or-powered};
+ghost use Rattle.reading.specs.Seen.{only-head, only-keep, only-gate, only-mct, all-gathered, with-gathered, kept-gathered, followed, two-after, or-powered};
 ghost use Rattle.tokens.specs.Seen.{found-tells};
 ghost use Rattle.reading.specs.Seen.{pair-tells, control-tells};
 ghost use Rattle.reading.specs.Seen.{seen-head, seen-gate, seen-mct, head-ahead, gate-ahead, mct-ahead};
@@ -162,7 +162,40 @@ pub fn read_head(s: &[u8], at: usize) -> HeadForm
     let Number::Is(n, e) = tokens::delimited_number(s, at, &text::LINES, b")\n") else {
         return HeadForm::Malformed;
     };
-    HeadForm::Is(text::Head { lines: n }, e)
+    HeadForm::Is(text::Head { lines: n, kept: 0 }, e)
+}
+
+// A keep line: numbers without a sign, at least one, gathered as controls are.
+pub fn read_keep(s: &[u8], at: usize) -> Bracketed
+    requires { ⌜ at ≤ length (now s) ⌝ }
+    ensures { λ r. ⌜ found-tells (now (s .entry)) at (kept-gathered (only-keep (parse (drop at (now (s .entry)))))) (r .controls) (r .end) ⌝ }
+{
+    let Found::At(p) = tokens::word(s, at, &text::KEEP) else {
+        return Bracketed {
+            end: Found::Missing,
+            controls: gathering::no_controls(),
+        };
+    };
+    let g = gather(s, p);
+    let controls = g.controls;
+    let bracket = g.end;
+    let Found::At(q) = bracket else {
+        return Bracketed {
+            end: Found::Missing,
+            controls,
+        };
+    };
+    let negated = controls.negated;
+    if negated.count != 0 {
+        return Bracketed {
+            end: Found::Missing,
+            controls,
+        };
+    }
+    Bracketed {
+        end: tokens::word(s, q, b"\n"),
+        controls,
+    }
 }
 
 // A line of a circuit: it begins with at most one of the four words.

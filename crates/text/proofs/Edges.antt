@@ -14,11 +14,13 @@ use Rattle.cascades.specs.Signs.{nots, between-nots, expansion±}
 use Rattle.text.specs.declared.Head.{Head}
 use Rattle.text.specs.Text.{Form, bytes}
 use Rattle.text.specs.Reading as R
-use Rattle.text.specs.Reading.{strip, second, num, tail, pair, list, many, lines-body, not-body, mct-body, powered-body, parse, whole, read, longer, cut}
+use Rattle.text.specs.Reading.{strip, second, num, tail, pair, list, many, without-sign, numbers, lines-body, keep-body, not-body, mct-body, powered-body, parse, whole, read, longer, cut}
+use Rattle.cascades.specs.LineSets.{binary, unpacked}
+use Rattle.text.specs.Heads.{head-of, kept-lines, line-below}
 use Rattle.text.specs.Judging as J
 use Rattle.text.specs.declared.Kind.{Kind}
 use Rattle.text.specs.declared.Kind.the-variants.{Cascade, Circuit}
-use Rattle.text.specs.Judging.{Judged, turned-away, accepted, belongs, most, any-from, rising, Rule, rule, first, head-rules, rules, or-else, judge-lines, judge-text, read-all, judge}
+use Rattle.text.specs.Judging.{Judged, turned-away, accepted, belongs, most, any-from, rising, Rule, rule, first, head-rules, keep-rules, rules, or-else, judge-lines, rest-by, rest, judge-rest, judge-text, read-all, judge}
 use Rattle.text.specs.Refusals.{number-of}
 
 unfoldable pub rule-number : Rule → ℕ
@@ -123,8 +125,33 @@ edges =
     ∷ away Circuit (bytes "(lines 3)\n(not -0)\n") 3 2
     ∷ away Circuit (bytes "(lines 3)\n(cn -0 1)\n") 3 2
     ∷ away Circuit (bytes "(lines 3)\n(v 0 -1)\n") 3 2
+    -- keep lines: "5 lines, `(keep 4)`, `(mct (0 1 2) 3)`"; one line more; a gate that names the kept line, which its M1 borrows; nothing but kept lines
+    ∷ away Cascade (bytes "(lines 5)\n(keep 4)\n(mct (0 1 2) 3)\n") 8 3
+    ∷ passes Cascade (bytes "(lines 6)\n(keep 4)\n(mct (0 1 2) 3)\n") 6 16
+    ∷ passes Cascade (bytes "(lines 7)\n(keep 0)\n(mct (0 1 2 3 4) 5)\n") 7 46
+    ∷ passes Cascade (bytes "(lines 3)\n(keep 0 1 2)\n") 3 0
+    -- on line 2 or nowhere, with a number at least, without signs
+    ∷ away Cascade (bytes "(lines 3)\n(keep)\n") 3 2
+    ∷ away Cascade (bytes "(lines 3)\n(keep )\n") 3 2
+    ∷ away Cascade (bytes "(lines 3)\n(keep 0 )\n") 3 2
+    ∷ away Cascade (bytes "(lines 3)\n(keep 0)") 3 2
+    ∷ away Cascade (bytes "(lines 3)\n(keep -1)\n") 3 2
+    ∷ away Cascade (bytes "(lines 3)\n(keep 0)\n(keep 1)\n") 3 3
+    ∷ away Cascade (bytes "(lines 3)\n(mct () 0)\n(keep 1)\n") 3 3
+    ∷ away Cascade (bytes "(keep 0)\n(lines 3)\n") 3 1
+    ∷ away Circuit (bytes "(lines 3)\n(keep 1)\n(not 0)\n") 3 2
+    -- rules 4 and 6, in this order
+    ∷ away Cascade (bytes "(lines 3)\n(keep 3)\n") 4 2
+    ∷ away Cascade (bytes "(lines 3)\n(keep 1 0 3)\n") 4 2
+    ∷ away Cascade (bytes "(lines 3)\n(keep 1 0)\n") 6 2
+    ∷ away Cascade (bytes "(lines 3)\n(keep 1 1)\n") 6 2
+    -- lines are counted with it, and 256 mct lines stand beside it; 8 before 7
+    ∷ passes Cascade (bytes "(lines 1)\n(keep 0)\n" ++ times 256 (bytes "(mct () 0)\n")) 1 256
+    ∷ away Cascade (bytes "(lines 1)\n(keep 0)\n" ++ times 257 (bytes "(mct () 0)\n")) 9 259
+    ∷ away Cascade (bytes "(lines 18)\n(keep 16 17)\n(mct (0 1 2 3 4 5 6 7 8 9 10 11 12 13 14) 15)\n") 8 3
+    ∷ away Cascade (bytes "(lines 18)\n(keep 17)\n(mct (0 1 2 3 4 5 6 7 8 9 10 11 12 13 14 15) 16)\n") 8 3
     ∷ []
 
 edges-hold : all-hold edges ≡ true
-unfolding times is-away is-passed holds all-hold has inverse inverted _⨾_ joined lines-outside mct-spares expand expand-with expansion strip second num tail pair R.signed control-lines negated-lines nots between-nots expansion± R.control R.controls list many lines-body not-body mct-body powered-body parse whole read longer cut J.controls J.target J.gates belongs most any-from rising first head-rules rules or-else judge-lines judge-text read-all judge
+unfolding times is-away is-passed holds all-hold has inverse inverted _⨾_ joined lines-outside mct-spares expand expand-with expansion strip second num tail pair R.signed control-lines negated-lines nots between-nots expansion± R.control R.controls list many without-sign numbers lines-body keep-body not-body mct-body powered-body parse whole read longer cut J.controls J.target J.gates belongs most any-from rising first head-rules keep-rules rules or-else binary unpacked head-of kept-lines line-below judge-lines rest-by rest judge-rest judge-text read-all judge
 edges-hold = refl

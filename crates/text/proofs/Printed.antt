@@ -11,9 +11,10 @@ use borrow.Author.Tests.{ne-eqb, le-leb, le-ltb, lt-ltb, eqb-true, eqb-false, le
 use Rattle.gates.specs.declared.Gate.the-variants.{Not, Powered}
 use Rattle.meaning.proofs.Flips.{both}
 use Rattle.cascades.specs.declared.Control.{Control}
-use Rattle.cascades.specs.Control.{negative}
-use Rattle.text.specs.Text.{Short, Proper, rendered, AllProper, Form, lines, gate, mct, bytes, digits, written, spaced, one, two, word, render}
-use Rattle.text.specs.Reading.{Got, got, none, bind, if-got, strip, digit, second, num, tail, pair, signed, control, controls, list, many, lines-body, not-body, mct-body, powered-body, parse, in-form, unformed, whole, read, longer, cut}
+use Rattle.cascades.specs.Control.{positive, negative, control-lines, negated-lines}
+use Rattle.cascades.proofs.Signless.{positive-lines, none-negated}
+use Rattle.text.specs.Text.{Short, Proper, rendered, AllProper, Form, lines, keep, gate, mct, bytes, digits, written, spaced, unsigned, one, two, word, render}
+use Rattle.text.specs.Reading.{Got, got, none, bind, if-got, strip, digit, second, num, tail, pair, signed, control, controls, list, many, without-sign, numbers, lines-body, keep-body, not-body, mct-body, powered-body, parse, in-form, unformed, whole, read, longer, cut}
 
 -- ---- booleans and answers
 
@@ -328,6 +329,56 @@ list-sound s cs r e = go (unelse (strip (41 ∷ []) s) _ _ e)
     go (inl x) = list-none s cs r (x .1) (x .2) (x .3)
     go (inr y) = let h = controls-sound (length s) s cs r y in (h .0, h .1)
 
+-- ---- numbers without a sign
+
+-- of `(keep)` and `(keep )` nothing is kept, nor of a number with a sign
+nothing-kept : numbers (bytes ")\n") ≡ none
+unfolding numbers controls control signed strip num
+nothing-kept = refl
+
+sign-kept : numbers (bytes "1 -2)\n") ≡ none
+unfolding numbers controls control signed strip num second without-sign negated-lines
+sign-kept = refl
+
+numbers-spaced : (a : ℕ) (l r : List ℕ) → Short (unsigned (a ∷ l)) → numbers (spaced (unsigned (a ∷ l)) ++ 41 ∷ 10 ∷ r) ≡ got (a ∷ l) r
+unfolding numbers strip without-sign
+numbers-spaced a l r h =
+    let c = positive a in
+    let cs = unsigned l in
+    rw (controls-spaced (length (spaced (c ∷ cs) ++ 41 ∷ 10 ∷ r)) c cs (10 ∷ r) (spaced-long c cs (10 ∷ r)) h, none-negated (a ∷ l), positive-lines (a ∷ l))
+
+-- controls without a sign are numbers
+pub no-signs : (cs : List Control) → length (negated-lines cs) ≡ 0 → cs ≡ unsigned (control-lines cs)
+unfolding control-lines negated-lines
+no-signs [] e = refl
+no-signs (c ∷ cs) e = go (c .negated) refl e (no-signs cs)
+  where
+    go : (b : Bool) → c .negated ≡ b → length (cond b (c .line ∷ negated-lines cs) (negated-lines cs)) ≡ 0 → (length (negated-lines cs) ≡ 0 → cs ≡ unsigned (control-lines cs)) → c ∷ cs ≡ unsigned (c .line ∷ control-lines cs)
+    go true q h ih = absurd (omega arith)
+    go false q h ih =
+        let p : c ≡ positive (c .line) = λ i. record { line = c .line; negated = q i } in
+        let z : cs ≡ unsigned (control-lines cs) = ih h in
+        cc
+
+numbers-sound : (s l r : List ℕ) → numbers s ≡ got l r → (s ≡ spaced (unsigned l) ++ 41 ∷ 10 ∷ r) × Proper (keep l)
+unfolding numbers without-sign control-lines
+numbers-sound s l r e =
+    let w = unbind (controls (length s) s) _ e in
+    let x = unbind (strip (10 ∷ []) (w .1)) _ (w .3) in
+    let h = controls-sound (length s) s (w .0) (w .1) (w .2) in
+    go (w .0) (x .1) (h .0 ∙ ap (λ (t : List ℕ). spaced (w .0) ++ 41 ∷ t) (strip-sound (10 ∷ []) (w .1) (x .1) (x .2))) (h .1) (h .2) (eqb (length (negated-lines (w .0))) 0) refl (x .3)
+  where
+    kept : (cs : List Control) → Short cs → Some cs → cs ≡ unsigned (control-lines cs) → Proper (keep (control-lines cs))
+    kept [] h m q = absurd m
+    kept (c ∷ cs) h m q = subst Short q h
+
+    go : (cs : List Control) (r′ : List ℕ) → s ≡ spaced cs ++ 41 ∷ 10 ∷ r′ → Short cs → Some cs → (b : Bool) → eqb (length (negated-lines cs)) 0 ≡ b → cond b (got (control-lines cs) r′) none ≡ got l r → (s ≡ spaced (unsigned l) ++ 41 ∷ 10 ∷ r) × Proper (keep l)
+    go cs r′ q h m false p z = absurd (none-got z)
+    go cs r′ q h m true p z =
+        let u = no-signs cs (eqb-true (length (negated-lines cs)) 0 p) in
+        let k = got-is z in
+        rw (← (k .0), ← (k .1)) (q ∙ ap (λ (ds : List Control). spaced ds ++ 41 ∷ 10 ∷ r′) u, kept cs h m u)
+
 -- ---- lines
 
 -- after `(mct (`
@@ -347,8 +398,10 @@ many-sound s cs t r e =
 
 -- what is written is parsed
 pub parse-render : (f : Form) (r : List ℕ) → Proper f → parse (render f ++ r) ≡ got f r
-unfolding parse strip render word lines-body not-body mct-body powered-body
+unfolding parse strip render word lines-body keep-body not-body mct-body powered-body
 parse-render (lines n) r h = rw (tail-one n r h)
+parse-render (keep []) r h = absurd h
+parse-render (keep (a ∷ l)) r h = rw (append-assoc (spaced (unsigned (a ∷ l))) (41 ∷ 10 ∷ []) r, numbers-spaced a l r h)
 parse-render (gate (Not t)) r h = rw (tail-one t r h)
 parse-render (gate (Powered zero c t)) r h = absurd (omega (arith, h .2))
 parse-render (gate (Powered (suc zero) c t)) r h = rw (pair-two c t r (h .0) (h .1))
@@ -371,6 +424,11 @@ lines-sound : After (bytes "(lines ") lines-body
 unfolding After lines-body render
 lines-sound s f r e = let w = unbind (tail s) _ e in let h = tail-sound s (w .0) (w .1) (w .2) in to (lines (w .0)) f (w .1) r (w .3) (ap (λ (l : List ℕ). bytes "(lines " ++ l) (h .0), h .1)
 
+keep-sound : After (bytes "(keep ") keep-body
+unfolding After keep-body render
+keep-sound s f r e = let w = unbind (numbers s) _ e in let h = numbers-sound s (w .0) (w .1) (w .2) in
+    to (keep (w .0)) f (w .1) r (w .3) (ap (λ (l : List ℕ). bytes "(keep " ++ l) (h .0 ∙ sym (append-assoc (spaced (unsigned (w .0))) (41 ∷ 10 ∷ []) (w .1))), h .1)
+
 not-sound : After (bytes "(not ") not-body
 unfolding After not-body render
 not-sound s f r e = let w = unbind (tail s) _ e in let h = tail-sound s (w .0) (w .1) (w .2) in to (gate (Not (w .0))) f (w .1) r (w .3) (ap (λ (l : List ℕ). bytes "(not " ++ l) (h .0), h .1)
@@ -386,7 +444,7 @@ mct-sound s f r e = let w = unbind (many s) _ e in let h = many-sound s (w .0 .0
 -- what is parsed was written
 pub parse-sound : (s : List ℕ) (f : Form) (r : List ℕ) → parse s ≡ got f r → (s ≡ render f ++ r) × Proper f
 unfolding parse After word
-parse-sound s f r e = ⊎-elim (at (bytes "(lines ") lines-body lines-sound) (λ e₁. ⊎-elim (at (bytes "(not ") not-body not-sound) (λ e₂. ⊎-elim (at (bytes "(cn ") (powered-body 2) (powered-sound 2 (omega arith) (omega arith))) (λ e₃. ⊎-elim (at (bytes "(v ") (powered-body 1) (powered-sound 1 (omega arith) (omega arith))) (λ e₄. ⊎-elim (at (bytes "(vp ") (powered-body 3) (powered-sound 3 (omega arith) (omega arith))) (λ e₅. at (bytes "(mct (") mct-body mct-sound (unbind (strip (bytes "(mct (") s) _ e₅)) (unelse (strip (bytes "(vp ") s) _ _ e₄)) (unelse (strip (bytes "(v ") s) _ _ e₃)) (unelse (strip (bytes "(cn ") s) _ _ e₂)) (unelse (strip (bytes "(not ") s) _ _ e₁)) (unelse (strip (bytes "(lines ") s) _ _ e)
+parse-sound s f r e = ⊎-elim (at (bytes "(lines ") lines-body lines-sound) (λ e₀. ⊎-elim (at (bytes "(keep ") keep-body keep-sound) (λ e₁. ⊎-elim (at (bytes "(not ") not-body not-sound) (λ e₂. ⊎-elim (at (bytes "(cn ") (powered-body 2) (powered-sound 2 (omega arith) (omega arith))) (λ e₃. ⊎-elim (at (bytes "(v ") (powered-body 1) (powered-sound 1 (omega arith) (omega arith))) (λ e₄. ⊎-elim (at (bytes "(vp ") (powered-body 3) (powered-sound 3 (omega arith) (omega arith))) (λ e₅. at (bytes "(mct (") mct-body mct-sound (unbind (strip (bytes "(mct (") s) _ e₅)) (unelse (strip (bytes "(vp ") s) _ _ e₄)) (unelse (strip (bytes "(v ") s) _ _ e₃)) (unelse (strip (bytes "(cn ") s) _ _ e₂)) (unelse (strip (bytes "(not ") s) _ _ e₁)) (unelse (strip (bytes "(keep ") s) _ _ e₀)) (unelse (strip (bytes "(lines ") s) _ _ e)
   where
     at : (w : List ℕ) (b : List ℕ → Got Form) → After w b → (a : Unit {0}) × (s′ : List ℕ) × (strip w s ≡ got a s′) × (b s′ ≡ got f r) → (s ≡ render f ++ r) × Proper f
     at w b h x = let k = h (x .1) f r (x .3) in (strip-sound w s (x .1) (x .2) ∙ k .0, k .1)
@@ -474,6 +532,7 @@ clean-word (suc (suc (suc p))) = refl
 ended-render : (f : Form) → Ended (render f)
 unfolding render
 ended-render (lines n) = ended-word (bytes "(lines ") refl (ended-one n)
+ended-render (keep l) = ended-word (bytes "(keep ") refl (ended-spaced (unsigned l) (ended-word (bytes ")") refl end))
 ended-render (gate (Not t)) = ended-word (bytes "(not ") refl (ended-one t)
 ended-render (gate (Powered p c t)) = ended-word (word p) (clean-word p) (ended-two c t)
 ended-render (mct cs t) = ended-word (bytes "(mct (") refl (ended-spaced cs (ended-word (bytes ") ") refl (ended-one t)))

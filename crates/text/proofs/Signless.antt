@@ -1,5 +1,5 @@
--- Every text is judged as it was before controls had signs (`Unsigned.antt`), but for a cascade with a negated control, which was malformed at its
--- line; so every text without a minus sign is, and every circuit text. Assumes nothing.
+-- Every text without a keep line is judged as it was before controls had signs (`Unsigned.antt`), but for a cascade with a negated control, which was
+-- malformed at its line; so every such text without a minus sign is, and every circuit text. Assumes nothing.
 use mathlib.Core.Path.{_≡_, refl, sym, ap, _∙_}
 use mathlib.Core.Logic.{_⊎_, inl, inr, _≢_}
 use mathlib.Core.Bool.{Bool, true, false, cond, not}
@@ -19,15 +19,16 @@ use Rattle.cascades.specs.Expansion.{expansion}
 use Rattle.cascades.proofs.Signless.{positives, none-negated, signless-expansion}
 use Rattle.text.specs.declared.Kind.{Kind}
 use Rattle.text.specs.declared.Kind.the-variants.{Cascade, Circuit}
-use Rattle.text.specs.declared.Head.{Head}
 use Rattle.text.specs.declared.Refusal.the-variants.{Malformed}
-use Rattle.text.specs.Text.{Form, lines, gate, mct, bytes, digits, written, spaced, one, render}
+use Rattle.text.specs.Text.{Form, lines, keep, gate, mct, bytes, digits, written, spaced, one, render}
 use Rattle.text.specs.Reading as now
-use Rattle.text.specs.Reading.{Got, got, none, bind, if-got, strip, num, tail, pair, signed, lines-body, not-body, powered-body, Line, in-form, unformed, whole, longer, cut}
+use Rattle.text.specs.Reading.{Got, got, none, bind, if-got, strip, num, tail, pair, numbers, signed, lines-body, keep-body, not-body, powered-body, Line, in-form, unformed, whole, longer, cut}
+use Rattle.cascades.specs.LineSets.{unpacked}
+use Rattle.text.specs.Heads.{kept-lines}
 use Rattle.text.specs.Judging as now-judged
 use Rattle.text.specs.Judging.{Judged, turned-away, controls, target, belongs, Found, sound, breaks, first, head-rules, or-else}
 use Rattle.text.proofs.Unsigned.{control, some-controls, list, many, mct-body, parse, read, gates, read-all, judge}
-use Rattle.text.proofs.JudgedBy.{judge-lines-by, judge-text-by, rules, judge-lines, judge-text}
+use Rattle.text.proofs.JudgedBy.{judge-lines-by, judge-text-by, rules-now, gates-now, judge-lines-now, judge-text-now, Unkept, unkept-judged, rules, judge-lines, judge-text}
 use Rattle.text.proofs.Printed.{none-got, unbind, got-is, strip-sound, target-sound, strip-digits, control-sound, read-only}
 
 -- ---- controls, as they are read now and as they were
@@ -190,6 +191,7 @@ data Foreign : Line → Type 0 where
 data Alike (k : Kind) : Line → Line → Type 0 where
   bad : Alike k unformed unformed
   head : (n : ℕ) → Alike k (in-form (lines n)) (in-form (lines n))
+  a-keep : (l : List ℕ) → Alike k (in-form (keep l)) (in-form (keep l))
   a-gate : (g : Gate) → Alike k (in-form (gate g)) (in-form (gate g))
   no-sign : (cs : List Control) (t : ℕ) → negated-lines cs ≡ [] → Alike k (in-form (mct cs t)) (in-form (mct cs t))
   foreign : {x y : Line} → k ≡ Circuit → Foreign x → Foreign y → Alike k x y
@@ -237,14 +239,15 @@ module _ (k : Kind) where
   mct-row (got a r) = mct-line r
 
   line-compared : (s : List ℕ) → Compared k (now.read s) (read s)
-  unfolding now.read read now.parse parse lines-body not-body powered-body
+  unfolding now.read read now.parse parse lines-body keep-body not-body powered-body
   line-compared s =
       row (strip (bytes "(lines ") s) _ _ _ (λ r. itself (tail r) lines head)
+      (row (strip (bytes "(keep ") s) _ _ _ (λ r. itself (numbers r) keep a-keep)
       (row (strip (bytes "(not ") s) _ _ _ (λ r. itself (tail r) (λ t. gate (Not t)) (λ t. a-gate (Not t)))
       (row (strip (bytes "(cn ") s) _ _ _ (powered 2)
       (row (strip (bytes "(v ") s) _ _ _ (powered 1)
       (row (strip (bytes "(vp ") s) _ _ _ (powered 3)
-      (mct-row (strip (bytes "(mct (") s))))))
+      (mct-row (strip (bytes "(mct (") s)))))))
     where
       powered : (p : ℕ) (r : List ℕ) → Alike k (whole (bind (pair r) (λ c. got (gate (Powered p (c .0) (c .1)))))) (whole (bind (pair r) (λ c. got (gate (Powered p (c .0) (c .1))))))
       powered p r = itself (pair r) (λ c. gate (Powered p (c .0) (c .1))) (λ c. a-gate (Powered p (c .0) (c .1)))
@@ -266,49 +269,51 @@ module _ (k : Kind) (before : ℕ) (l : List ℕ) (ls : List (List ℕ)) {x y : 
   next sound (inl e) = inl e
   next sound (inr w) = inr (record { cascade = w .cascade; place = suc (w .place); malformed = w .malformed ∙ ap (turned-away Malformed) (omega arith); newly = w .newly })
 
-module _ (k : Kind) (h : Head) where
+module _ (k : Kind) (n : ℕ) where
   -- a line of another kind
-  foreign-now : (before : ℕ) (c : List Gate) {x : Line} (ls : List Line) → k ≡ Circuit → Foreign x → now-judged.judge-lines k h before c (x ∷ ls) ≡ turned-away Malformed (before + 2)
-  unfolding now-judged.judge-lines now-judged.rules first or-else belongs
+  foreign-now : (before : ℕ) (c : List Gate) {x : Line} (ls : List Line) → k ≡ Circuit → Foreign x → judge-lines-now k n before c (x ∷ ls) ≡ turned-away Malformed (before + 2)
+  unfolding judge-lines-by rules-now now-judged.rules first or-else belongs
   foreign-now before c ls e no-form = refl
   foreign-now before c ls e (an-mct cs t) = rw e
 
-  foreign-then : (before : ℕ) (c : List Gate) {x : Line} (ls : List Line) → k ≡ Circuit → Foreign x → judge-lines gates k h before c (x ∷ ls) ≡ turned-away Malformed (before + 2)
-  unfolding judge-lines-by now-judged.rules rules first or-else belongs
+  foreign-then : (before : ℕ) (c : List Gate) {x : Line} (ls : List Line) → k ≡ Circuit → Foreign x → judge-lines gates k n before c (x ∷ ls) ≡ turned-away Malformed (before + 2)
+  unfolding judge-lines-by rules-now now-judged.rules rules first or-else belongs
   foreign-then before c ls e no-form = refl
   foreign-then before c ls e (an-mct cs t) = rw e
 
   abbrev Outcome : ℕ → List Gate → List (List ℕ) → List Line → List Line → Type 0
-  Outcome before c ls xs ys = (now-judged.judge-lines k h before c xs ≡ judge-lines gates k h before c ys) ⊎ Changed k (judge-lines gates k h before c ys) before ls
+  Outcome before c ls xs ys = (judge-lines-now k n before c xs ≡ judge-lines gates k n before c ys) ⊎ Changed k (judge-lines gates k n before c ys) before ls
 
   -- a line that is read alike
   step : (before : ℕ) (c : List Gate) (l : List ℕ) (ls : List (List ℕ)) {x y : Line} (xs ys : List Line) → Alike k x y → ((d : List Gate) → Outcome (before + 1) d ls xs ys) → Outcome before c (l ∷ ls) (x ∷ xs) (y ∷ ys)
-  unfolding now-judged.judge-lines judge-lines-by now-judged.rules rules now-judged.gates gates
+  unfolding judge-lines-by rules-now now-judged.rules rules gates-now now-judged.gates gates kept-lines unpacked
   step before c l ls xs ys bad f = inl refl
-  step before c l ls xs ys (head n) f = next k before l ls (first (rules gates k h before c (lines n))) (f (c ++ []))
-  step before c l ls xs ys (a-gate g) f = next k before l ls (first (rules gates k h before c (gate g))) (f (c ++ g ∷ []))
-  step before c l ls xs ys (no-sign cs t e) f = rw (signless-expansion (h .lines) cs t e) (next k before l ls (first (rules gates k h before c (mct cs t))) (f (c ++ expansion (h .lines) (control-lines cs) t)))
+  step before c l ls xs ys (head m) f = next k before l ls (first (rules gates k n before c (lines m))) (f (c ++ []))
+  step before c l ls xs ys (a-keep m) f = next k before l ls (first (rules gates k n before c (keep m))) (f (c ++ []))
+  step before c l ls xs ys (a-gate g) f = next k before l ls (first (rules gates k n before c (gate g))) (f (c ++ g ∷ []))
+  step before c l ls xs ys (no-sign cs t e) f = rw (signless-expansion n [] cs t e) (next k before l ls (first (rules gates k n before c (mct cs t))) (f (c ++ expansion n [] (control-lines cs) t)))
   step before c l ls xs ys (foreign e a b) f = inl (foreign-now before c xs e a ∙ sym (foreign-then before c ys e b))
 
   lines-compared : (before : ℕ) (c : List Gate) (ls : List (List ℕ)) → Outcome before c ls (now-judged.read-all ls) (read-all ls)
   unfolding now-judged.read-all read-all
-  lines-compared before c [] = inl (unfold now-judged.judge-lines judge-lines-by in refl)
+  lines-compared before c [] = inl (unfold judge-lines-by in refl)
   lines-compared before c (l ∷ ls) = go (line-compared k l) (λ d. lines-compared (before + 1) d ls)
     where
       go : Compared k (now.read l) (read l) → ((d : List Gate) → Outcome (before + 1) d ls (now-judged.read-all ls) (read-all ls)) → Outcome before c (l ∷ ls) (now.read l ∷ now-judged.read-all ls) (read l ∷ read-all ls)
       go (inl a) f = step before c l ls (now-judged.read-all ls) (read-all ls) a f
-      go (inr (e, w)) f = inr (record { cascade = e; place = 0; malformed = ap (λ (y : Line). judge-lines gates k h before c (y ∷ read-all ls)) (w .malformed-then) ∙ (unfold judge-lines-by in ap (turned-away Malformed) (omega arith)); newly = w })
+      go (inr (e, w)) f = inr (record { cascade = e; place = 0; malformed = ap (λ (y : Line). judge-lines gates k n before c (y ∷ read-all ls)) (w .malformed-then) ∙ (unfold judge-lines-by in ap (turned-away Malformed) (omega arith)); newly = w })
 
 module _ (k : Kind) where
-  first-line : (ls : List (List ℕ)) {x y : Line} → Compared k x y → ((h : Head) → Outcome k h 0 [] ls (now-judged.read-all ls) (read-all ls))
-      → (now-judged.judge-text k (x ∷ now-judged.read-all ls) ≡ judge-text gates k (y ∷ read-all ls)) ⊎ Changed k (judge-text gates k (y ∷ read-all ls)) 0 ls
-  unfolding now-judged.judge-text judge-text-by
+  first-line : (ls : List (List ℕ)) {x y : Line} → Compared k x y → ((m : ℕ) → Outcome k m 0 [] ls (now-judged.read-all ls) (read-all ls))
+      → (judge-text-now k (x ∷ now-judged.read-all ls) ≡ judge-text gates k (y ∷ read-all ls)) ⊎ Changed k (judge-text gates k (y ∷ read-all ls)) 0 ls
+  unfolding judge-text-by
   first-line ls (inl bad) f = inl refl
-  first-line ls (inl (head n)) f = go (first (head-rules n)) (f (record { lines = n }))
+  first-line ls (inl (head n)) f = go (first (head-rules n)) (f n)
     where
       go : {x y : Judged} (r : Found) → (x ≡ y) ⊎ Changed k y 0 ls → (or-else r 1 x ≡ or-else r 1 y) ⊎ Changed k (or-else r 1 y) 0 ls
       go sound w = unfold or-else in w
       go (breaks r) w = unfold or-else in inl refl
+  first-line ls (inl (a-keep l)) f = inl refl
   first-line ls (inl (a-gate g)) f = inl refl
   first-line ls (inl (no-sign cs t e)) f = inl refl
   first-line ls (inl (foreign e no-form no-form)) f = inl refl
@@ -317,15 +322,15 @@ module _ (k : Kind) where
   first-line ls (inl (foreign e (an-mct cs t) (an-mct ds u))) f = inl refl
   first-line ls (inr (e, w)) f = inl (rw (w .reads-now, w .has-sign .is-mct, w .malformed-then))
 
-  lines-judged : (ls : List (List ℕ)) → (now-judged.judge-text k (now-judged.read-all ls) ≡ judge-text gates k (read-all ls)) ⊎ Changed k (judge-text gates k (read-all ls)) 0 (drop 1 ls)
+  lines-judged : (ls : List (List ℕ)) → (judge-text-now k (now-judged.read-all ls) ≡ judge-text gates k (read-all ls)) ⊎ Changed k (judge-text gates k (read-all ls)) 0 (drop 1 ls)
   unfolding now-judged.read-all read-all
-  lines-judged [] = inl (unfold now-judged.judge-text judge-text-by in refl)
-  lines-judged (l ∷ ls) = first-line ls (line-compared k l) (λ h. lines-compared k h 0 [] ls)
+  lines-judged [] = inl (unfold judge-text-by in refl)
+  lines-judged (l ∷ ls) = first-line ls (line-compared k l) (λ m. lines-compared k m 0 [] ls)
 
-  -- every text is judged as it was, but for a cascade with a negated control, which was malformed at that line
-  pub changed-only : (s : List ℕ) → (now-judged.judge k s ≡ judge k s) ⊎ Changed k (judge k s) 0 (drop 1 (cut s))
-  unfolding now-judged.judge judge
-  changed-only s = lines-judged (cut s)
+  -- every text without a keep line is judged as it was, but for a cascade with a negated control, which was malformed at that line
+  pub changed-only : (s : List ℕ) → Unkept k s → (now-judged.judge k s ≡ judge k s) ⊎ Changed k (judge k s) 0 (drop 1 (cut s))
+  unfolding judge
+  changed-only s u = rw (unkept-judged k s u) (lines-judged (cut s))
 
 -- ---- texts without a minus sign
 
@@ -387,9 +392,9 @@ not-newly l n w =
     let u = signless-parts (bytes "(mct (") (spaced (f .controls) ++ (bytes ") " ++ one (f .target))) (ap (has 45) (sym (q ∙ unfold render in refl)) ∙ n) in
     f .negated (spaced-signless (f .controls) (signless-parts (spaced (f .controls)) _ (u .1) .0))
 
--- a text without a minus sign is judged as it was
-pub judged-before : (k : Kind) (s : List ℕ) → Signless s → now-judged.judge k s ≡ judge k s
-judged-before k s n = go (changed-only k s)
+-- a text without a minus sign, and without a keep line, is judged as it was
+pub judged-before : (k : Kind) (s : List ℕ) → Unkept k s → Signless s → now-judged.judge k s ≡ judge k s
+judged-before k s u n = go (changed-only k s u)
   where
     go : (now-judged.judge k s ≡ judge k s) ⊎ Changed k (judge k s) 0 (drop 1 (cut s)) → now-judged.judge k s ≡ judge k s
     go (inl e) = e
@@ -397,7 +402,7 @@ judged-before k s n = go (changed-only k s)
 
 -- and so is every circuit text: a sign was malformed there, and is
 pub circuits-before : (s : List ℕ) → now-judged.judge Circuit s ≡ judge Circuit s
-circuits-before s = go (changed-only Circuit s)
+circuits-before s = go (changed-only Circuit s tt)
   where
     go : (now-judged.judge Circuit s ≡ judge Circuit s) ⊎ Changed Circuit (judge Circuit s) 0 (drop 1 (cut s)) → now-judged.judge Circuit s ≡ judge Circuit s
     go (inl e) = e

@@ -1,5 +1,5 @@
--- What a text was judged to be before controls had signs: the definitions of then, but for the order of spare lines and that of rules 7 and 8, which
--- are those of now (`Lowest.antt` and `WideFirst.antt` have those of then). A control was a number. Forms are those of now, with controls that have no sign; `controls`, `target` and
+-- What a text without a keep line was judged to be before controls had signs: the definitions of then, but for the order of spare lines and that of
+-- rules 7 and 8, which are those of now (`Lowest.antt` and `WideFirst.antt` have those of then). A control was a number. Forms are those of now, with controls that have no sign; `controls`, `target` and
 -- `belongs` read them as they read those of then. Assumes nothing.
 use mathlib.Core.Bool.{Bool, true, false, cond}
 use mathlib.Core.List.{List, [], _∷_}
@@ -10,8 +10,8 @@ use Rattle.cascades.specs.Control.{control-lines}
 use Rattle.cascades.specs.Expansion.{expansion}
 use Rattle.cascades.proofs.Signless.{positives}
 use Rattle.text.specs.declared.Kind.{Kind}
-use Rattle.text.specs.Text.{Form, lines, gate, mct, bytes}
-use Rattle.text.specs.Reading.{Got, got, none, bind, if-got, strip, num, tail, lines-body, not-body, powered-body, Line, whole, cut}
+use Rattle.text.specs.Text.{Form, lines, keep, gate, mct, bytes}
+use Rattle.text.specs.Reading.{Got, got, none, bind, if-got, strip, num, tail, lines-body, keep-body, not-body, powered-body, Line, whole, cut}
 use Rattle.text.specs.Judging.{Judged}
 use Rattle.text.proofs.JudgedBy.{judge-text}
 
@@ -34,11 +34,12 @@ mct-body s = bind (many s) (λ p. got (mct (positives (p .0)) (p .1)))
 unfoldable pub parse : List ℕ → Got Form
 parse s =
     if-got (strip (bytes "(lines ") s) (λ _. lines-body)
+    (if-got (strip (bytes "(keep ") s) (λ _. keep-body)
     (if-got (strip (bytes "(not ") s) (λ _. not-body)
     (if-got (strip (bytes "(cn ") s) (λ _. powered-body 2)
     (if-got (strip (bytes "(v ") s) (λ _. powered-body 1)
     (if-got (strip (bytes "(vp ") s) (λ _. powered-body 3)
-    (bind (strip (bytes "(mct (") s) (λ _. mct-body))))))
+    (bind (strip (bytes "(mct (") s) (λ _. mct-body)))))))
 
 unfoldable pub read : List ℕ → Line
 read s = whole (parse s)
@@ -46,8 +47,9 @@ read s = whole (parse s)
 -- the expansion had no NOTs for signs
 unfoldable pub gates : ℕ → Form → List Gate
 gates n (lines m) = []
+gates n (keep l) = []
 gates n (gate g) = g ∷ []
-gates n (mct cs t) = expansion n (control-lines cs) t
+gates n (mct cs t) = expansion n [] (control-lines cs) t
 
 unfoldable pub read-all : List (List ℕ) → List Line
 read-all [] = []

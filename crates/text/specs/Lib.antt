@@ -2,4 +2,5 @@
 pub mod Refusals
 pub mod Text
 pub mod Reading
+pub mod Heads
 pub mod Judging

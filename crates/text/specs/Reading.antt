@@ -7,7 +7,8 @@ use lib.ListN.{length}
 use lib.Dec.{eqb, leb}
 use Rattle.gates.specs.declared.Gate.the-variants.{Not, Powered}
 use Rattle.cascades.specs.declared.Control.{Control}
-use Rattle.text.specs.Text.{Form, lines, gate, mct, bytes}
+use Rattle.cascades.specs.Control.{control-lines, negated-lines}
+use Rattle.text.specs.Text.{Form, lines, keep, gate, mct, bytes}
 
 -- what was got, and the bytes after it
 pub data Got (A : Type 0) : Type 0 where
@@ -73,9 +74,20 @@ list s = if-got (strip (bytes ")") s) (λ _ s′. got [] s′) (controls (length
 unfoldable pub many : List ℕ → Got (List Control × ℕ)
 many s = bind (list s) (λ cs s′. bind (strip (bytes " ") s′) (λ _ s″. bind (tail s″) (λ t s‴. got (cs, t) s‴)))
 
+-- the lines of controls none of which has a sign
+unfoldable pub without-sign : List Control → List ℕ → Got (List ℕ)
+without-sign cs s = cond (eqb (length (negated-lines cs)) 0) (got (control-lines cs) s) none
+
+-- `a b ..)` and the line's end: numbers without a sign, at least one
+unfoldable pub numbers : List ℕ → Got (List ℕ)
+numbers s = bind (controls (length s) s) (λ cs s′. bind (strip (bytes "\n") s′) (λ _ s″. without-sign cs s″))
+
 -- the rest of a line, by its word
 unfoldable pub lines-body : List ℕ → Got Form
 lines-body s = bind (tail s) (λ n. got (lines n))
+
+unfoldable pub keep-body : List ℕ → Got Form
+keep-body s = bind (numbers s) (λ l. got (keep l))
 
 unfoldable pub not-body : List ℕ → Got Form
 not-body s = bind (tail s) (λ t. got (gate (Not t)))
@@ -89,11 +101,12 @@ powered-body p s = bind (pair s) (λ c. got (gate (Powered p (c .0) (c .1))))
 unfoldable pub parse : List ℕ → Got Form
 parse s =
     if-got (strip (bytes "(lines ") s) (λ _. lines-body)
+    (if-got (strip (bytes "(keep ") s) (λ _. keep-body)
     (if-got (strip (bytes "(not ") s) (λ _. not-body)
     (if-got (strip (bytes "(cn ") s) (λ _. powered-body 2)
     (if-got (strip (bytes "(v ") s) (λ _. powered-body 1)
     (if-got (strip (bytes "(vp ") s) (λ _. powered-body 3)
-    (bind (strip (bytes "(mct (") s) (λ _. mct-body))))))
+    (bind (strip (bytes "(mct (") s) (λ _. mct-body)))))))
 
 -- a whole line, its byte 10 included
 pub data Line : Type 0 where

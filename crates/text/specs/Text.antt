@@ -11,11 +11,13 @@ use Rattle.gates.specs.Every.{Every}
 use Rattle.gates.specs.declared.Gate.{Gate}
 use Rattle.gates.specs.declared.Gate.the-variants.{Not, Powered}
 use Rattle.cascades.specs.declared.Control.{Control}
+use Rattle.cascades.specs.Control.{positive}
 use Rattle.cascades.specs.Cascade.{Controlled}
 
--- (lines n); (not t), (cn c t), (v c t) and (vp c t); (mct (c1 c2 .. ck) t), each ci with or without a sign
+-- (lines n); (keep a b ..) (document 02, order 8); (not t), (cn c t), (v c t) and (vp c t); (mct (c1 c2 .. ck) t), each ci with or without a sign
 pub data Form : Type 0 where
   lines : ℕ → Form
+  keep : List ℕ → Form
   gate : Gate → Form
   mct : List Control → ℕ → Form
 
@@ -38,6 +40,10 @@ spaced [] = []
 spaced (c ∷ []) = written c
 spaced (c ∷ d ∷ cs) = written c ++ (bytes " " ++ spaced (d ∷ cs))
 
+-- numbers, written as controls without a sign
+abbrev pub unsigned : List ℕ → List Control
+unsigned l = map positive l
+
 -- the last number of a line; the line is ended by byte 10
 unfoldable pub one : ℕ → List ℕ
 one t = digits t ++ bytes ")\n"
@@ -55,6 +61,7 @@ word (suc (suc (suc p))) = bytes "(vp "
 
 unfoldable pub render : Form → List ℕ
 render (lines n) = bytes "(lines " ++ one n
+render (keep l) = bytes "(keep " ++ (spaced (unsigned l) ++ bytes ")\n")
 render (gate (Not t)) = bytes "(not " ++ one t
 render (gate (Powered p c t)) = word p ++ two c t
 render (mct cs t) = bytes "(mct (" ++ (spaced cs ++ (bytes ") " ++ one t))
@@ -67,19 +74,30 @@ rendered (f ∷ fs) = render f ++ rendered fs
 abbrev pub as-forms : List Controlled → List Form
 as-forms gs = map (λ g. mct (g .controls) (g .target)) gs
 
--- a cascade text, and a circuit text
-unfoldable pub cascade-text : ℕ → List Controlled → List ℕ
-cascade-text n gs = rendered (lines n ∷ as-forms gs)
+-- a keep line, where lines are kept
+unfoldable pub keep-forms : List ℕ → List Form
+keep-forms [] = []
+keep-forms (a ∷ kept) = keep (a ∷ kept) ∷ []
+
+-- what stands above the gates: (lines n), and "right after line 1" the kept lines
+unfoldable pub head-forms : ℕ → List ℕ → List Form
+head-forms n kept = lines n ∷ keep-forms kept
+
+-- a cascade text with these kept lines, and a circuit text
+unfoldable pub cascade-text : ℕ → List ℕ → List Controlled → List ℕ
+cascade-text n kept gs = rendered (head-forms n kept ++ as-forms gs)
 
 unfoldable pub circuit-text : ℕ → List Gate → List ℕ
 circuit-text n c = rendered (lines n ∷ map gate c)
 
--- a form that can be written: numbers of one or two digits, powers 1 to 3
+-- a form that can be written: numbers of one or two digits, "at least one number" to keep, powers 1 to 3
 abbrev pub Short : List Control → Type 0
 Short = Every (λ c. c .line < 100)
 
 abbrev pub Proper : Form → Type 0
 Proper (lines n) = n < 100
+Proper (keep []) = ⊥
+Proper (keep (a ∷ l)) = Short (unsigned (a ∷ l))
 Proper (gate (Not t)) = t < 100
 Proper (gate (Powered p c t)) = (c < 100) × (t < 100) × (1 ≤ p) × (p ≤ 3)
 Proper (mct cs t) = Short cs × (t < 100)

@@ -23,13 +23,17 @@ pub enum Kind {
     Circuit,
 }
 
-// What line 1 of a text says.
+// What the head of a text says: how many lines there are, and which of them nobody may borrow. Line a is kept if bit a of `kept` is 1, so `kept` is
+// 0 exactly if the text has no keep line.
 pub struct Head {
     pub lines: u8,
+    pub kept: u32,
 }
 
 // The words of the two texts, each with the bracket before it and the space after it.
 pub const LINES: [u8; 7] = *b"(lines ";
+
+pub const KEEP: [u8; 6] = *b"(keep ";
 
 pub const MCT: [u8; 6] = *b"(mct (";
 

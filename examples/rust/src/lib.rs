@@ -40,8 +40,9 @@ pub enum Gate {
 }
 
 /// The numbers of a refusal. A line of the text is tried against 3, 4, 5, 6, 8, 7
-/// and 9, in this order: so a gate with 16 or more controls that names every line of
-/// the circuit gets [`Number::NoSpare`], and once a line is added [`Number::TooWide`].
+/// and 9, in this order: so a gate with 16 or more controls that may borrow no line,
+/// since it names each of them or the line is kept, gets [`Number::NoSpare`], and once a
+/// line is added [`Number::TooWide`].
 #[derive(Clone, Copy, Debug, PartialEq, Eq, Hash)]
 pub enum Number {
     Overlong = 1,
@@ -104,10 +105,12 @@ impl Number {
                  (or line 1 of the text asks for none, or for more than 32)"
             }
             Number::Crossed => "a gate is controlled by its own target",
-            Number::Unsorted => "the controls are not in rising order",
+            Number::Unsorted => {
+                "the controls of a gate, or the lines to be kept, are not in rising order"
+            }
             Number::TooWide => "a gate has more than 15 controls",
             Number::NoSpare => {
-                "a gate with three or more controls uses every line of the circuit: \
+                "a gate with three or more controls has no line left that it may borrow: \
                  add a line to the circuit"
             }
             Number::TooMany => {
@@ -167,6 +170,19 @@ pub struct Circuit {
 /// ```
 /// let mapped = yilgorza::map(b"(lines 2)\n(mct (-0) 1)\n").unwrap();
 /// assert_eq!(mapped.text, b"(lines 2)\n(not 0)\n(cn 0 1)\n(not 0)\n");
+/// ```
+///
+/// A gate with three or more controls borrows lines of the circuit. Line 2 of the text may
+/// name lines that nobody may borrow, in `(keep a b ..)`: such a line is used only by the
+/// gates that name it. It counts as a line of the text.
+///
+/// ```
+/// let kept = yilgorza::map(b"(lines 6)\n(keep 4)\n(mct (0 1 2) 3)\n").unwrap();
+/// assert_eq!(kept.gates.len(), 14);
+/// assert!(kept.gates.contains(&yilgorza::Gate::Cn { control: 0, target: 5 }));
+///
+/// let refusal = yilgorza::map(b"(lines 5)\n(keep 4)\n(mct (0 1 2) 3)\n").unwrap_err();
+/// assert_eq!((refusal.number, refusal.line), (yilgorza::Number::NoSpare, 3));
 /// ```
 pub fn map(text: &[u8]) -> Result<Circuit, Refusal> {
     circuit(lent::map, text)

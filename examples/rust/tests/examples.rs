@@ -1,5 +1,5 @@
-//! The examples of document 01, negated controls, spare lines, the order of circuits,
-//! inverses and joins, and what is left in memory that a caller lends.
+//! The examples of document 01, negated controls, spare lines, kept lines, the order of
+//! circuits, inverses and joins, and what is left in memory that a caller lends.
 
 use std::cmp::Ordering;
 
@@ -155,6 +155,158 @@ fn spare_lines() {
     for (lines, count) in cases {
         assert_eq!(quoted(&text(lines)).unwrap().len(), count, "{lines:?}");
     }
+}
+
+/// Three controls, and the lines 4 and 5 unnamed: 4 is kept, so the gate borrows 5. The
+/// list is the reduced one of the expansion with this spare line, by hand.
+const KEPT: &[u8] = include_bytes!("../../texts/kept.cascade");
+const KEPT_MAPPED: [&str; 15] = [
+    "(lines 6)",
+    "(v 5 3)",
+    "(cn 0 5)",
+    "(vp 5 3)",
+    "(v 1 5)",
+    "(v 2 5)",
+    "(cn 1 2)",
+    "(vp 2 5)",
+    "(v 5 3)",
+    "(cn 0 5)",
+    "(vp 5 3)",
+    "(vp 1 5)",
+    "(v 2 5)",
+    "(cn 1 2)",
+    "(vp 2 5)",
+];
+
+#[test]
+fn kept_lines() {
+    assert_eq!(KEPT, text(&["(lines 6)", "(keep 4)", "(mct (0 1 2) 3)"]));
+    let circuit = map(KEPT).unwrap();
+    assert_eq!(circuit.text, text(&KEPT_MAPPED));
+    assert_eq!(circuit.gates.len(), 14);
+    assert_eq!(quoted(KEPT).as_ref(), Ok(&circuit.gates));
+    // The list is a circuit, reduced already.
+    assert_eq!(reduce(&circuit.text), Ok(circuit));
+
+    let five = "(mct (0 1 2 3 4) 5)";
+    let cases: [(&[&str], usize); 9] = [
+        // The gate names line 0, which its M1 borrows.
+        (&["(lines 7)", "(keep 0)", five], 42),
+        // With 6 or 7 kept it is as on seven lines, and on nine as on eight.
+        (&["(lines 8)", "(keep 6)", five], 42),
+        (&["(lines 8)", "(keep 7)", five], 42),
+        (&["(lines 9)", "(keep 6)", five], 32),
+        (&["(lines 8)", "(keep 0 1 2 3 4 5)", five], 32),
+        // A negated control adds its two NOTs, on a kept line too.
+        (&["(lines 6)", "(keep 0 4)", "(mct (-0 1 2) 3)"], 16),
+        // Two controls borrow nothing.
+        (&["(lines 3)", "(keep 0 1 2)", "(mct (0 1) 2)"], 5),
+        (&["(lines 3)", "(keep 0 1 2)"], 0),
+        (&["(lines 32)", "(keep 31)"], 0),
+    ];
+    for (lines, count) in cases {
+        assert_eq!(quoted(&text(lines)).unwrap().len(), count, "{lines:?}");
+    }
+
+    // Lines that the gate names may be borrowed by the smaller ones, kept or not: the
+    // list is the one without the keep line.
+    for (head, kept) in [
+        ("(lines 7)", "(keep 0)"),
+        ("(lines 7)", "(keep 0 1 2 3 4 5)"),
+        ("(lines 8)", "(keep 0 5)"),
+    ] {
+        assert_eq!(map(&text(&[head, kept, five])), map(&text(&[head, five])));
+    }
+}
+
+#[test]
+fn refusals_of_kept_lines() {
+    let three = "(mct (0 1 2) 3)";
+    for lines in [
+        ["(lines 5)", "(keep 4)", three],
+        ["(lines 5)", "(keep 0 4)", three],
+        ["(lines 5)", "(keep 4)", "(mct (-0 1 -2) 3)"],
+        ["(lines 6)", "(keep 4 5)", three],
+        ["(lines 4)", "(keep 0)", three],
+        // Rule 8 is tried before 7.
+        ["(lines 18)", "(keep 17)", SIXTEEN],
+    ] {
+        assert_eq!(map(&text(&lines)), refused(Number::NoSpare, 3), "{lines:?}");
+        assert_eq!(quoted(&text(&lines)), refused(Number::NoSpare, 3));
+    }
+    let wide = text(&["(lines 19)", "(keep 17)", SIXTEEN]);
+    assert_eq!(map(&wide), refused(Number::TooWide, 3));
+
+    // The keep line itself: rules 3, 4 and 6, in this order.
+    for (keep, number) in [
+        ("(keep)", Number::Malformed),
+        ("(keep )", Number::Malformed),
+        ("(keep -1)", Number::Malformed),
+        ("(keep 01)", Number::Malformed),
+        ("(keep 0  1)", Number::Malformed),
+        ("(keep 0 1 )", Number::Malformed),
+        ("(keep (0))", Number::Malformed),
+        ("(keep 100)", Number::Malformed),
+        ("(Keep 0)", Number::Malformed),
+        ("(keep 3)", Number::NoSuchLine),
+        ("(keep 0 99)", Number::NoSuchLine),
+        ("(keep 3 0)", Number::NoSuchLine),
+        ("(keep 1 0)", Number::Unsorted),
+        ("(keep 1 1)", Number::Unsorted),
+        ("(keep 0 2 1)", Number::Unsorted),
+    ] {
+        for rest in [&[][..], &["(mct (0 1) 2)"], &["(mct (0) 0)"]] {
+            let given = text(&[&["(lines 3)", keep], rest].concat());
+            assert_eq!(map(&given), refused(number, 2), "{keep}");
+            assert_eq!(quoted(&given), refused(number, 2), "{keep}");
+        }
+    }
+
+    // It stands on line 2 of a cascade and nowhere else; line 1 is judged before it.
+    for (lines, number, line) in [
+        (
+            vec!["(lines 3)", "(keep 0)", "(keep 1)"],
+            Number::Malformed,
+            3,
+        ),
+        (
+            vec!["(lines 3)", "(mct () 0)", "(keep 1)"],
+            Number::Malformed,
+            3,
+        ),
+        (vec!["(keep 0)", "(lines 3)"], Number::Malformed, 1),
+        (vec!["(lines 33)", "(keep 0)"], Number::NoSuchLine, 1),
+        // The lines after it are counted from it on.
+        (
+            vec!["(lines 3)", "(keep 0)", "(mct (0) 0)"],
+            Number::Crossed,
+            3,
+        ),
+        (
+            vec!["(lines 3)", "(keep 0)", "(mct () 0)", "(mct (2 1) 0)"],
+            Number::Unsorted,
+            4,
+        ),
+    ] {
+        assert_eq!(map(&text(&lines)), refused(number, line), "{lines:?}");
+    }
+    let keep = text(&["(lines 3)", "(keep 0)"]);
+    let good = text(&["(lines 3)"]);
+    assert_eq!(reduce(&keep), refused(Number::Malformed, 2));
+    assert_eq!(invert(&keep), refused(Number::Malformed, 2));
+    for (first, second, number) in [(&keep, &good, 1), (&good, &keep, 2)] {
+        let malformed = refused_text(Number::Malformed, 2, number);
+        assert_eq!(compare(first, second), malformed);
+        assert_eq!(
+            join(first, second),
+            refused_text(Number::Malformed, 2, number)
+        );
+    }
+
+    // 256 gates are allowed beside it.
+    let many = |gates| [vec!["(lines 3)", "(keep 2)"], vec!["(mct (0) 1)"; gates]].concat();
+    assert_eq!(quoted(&text(&many(256))), Ok(vec![]));
+    assert_eq!(map(&text(&many(257))), refused(Number::TooMany, 259));
 }
 
 /// Cascades with negated controls, and what they are mapped to.

@@ -61,9 +61,10 @@ class Number(IntEnum):
     """The numbers of a refusal.
 
     A line of the text is tried against 3, 4, 5, 6, 8, 7 and 9, in this order: so a
-    gate with 16 or more controls that names every line of the circuit gets NO_SPARE,
-    and once a line is added TOO_WIDE. DIFFERENT_LINES is join's, once both texts are
-    read and before it counts their gates together.
+    gate with 16 or more controls that may borrow no line, since it names each of them
+    or the line is kept, gets NO_SPARE, and once a line is added TOO_WIDE.
+    DIFFERENT_LINES is join's, once both texts are read and before it counts their
+    gates together.
     """
 
     OVERLONG = 1
@@ -95,10 +96,11 @@ _WORDS = {
     Number.NO_SUCH_LINE: "this line of the text names a line that the circuit does "
     "not have (or line 1 of the text asks for none, or for more than 32)",
     Number.CROSSED: "a gate is controlled by its own target",
-    Number.UNSORTED: "the controls are not in rising order",
+    Number.UNSORTED: "the controls of a gate, or the lines to be kept, are not in "
+    "rising order",
     Number.TOO_WIDE: "a gate has more than 15 controls",
-    Number.NO_SPARE: "a gate with three or more controls uses every line of the "
-    "circuit: add a line to the circuit",
+    Number.NO_SPARE: "a gate with three or more controls has no line left that it "
+    "may borrow: add a line to the circuit",
     Number.TOO_MANY: "too many gates: the 257th of a cascade, an expansion past "
     "4,096, or the 4,097th of a circuit or of two that are joined",
     Number.SHORT_ANSWER: "the service lent an answer area that is too short",
@@ -200,7 +202,11 @@ class Ordering(IntEnum):
 
 
 def map(text: Text) -> Circuit:
-    """Maps a cascade text to a circuit; TurnedAway if it is refused."""
+    """Maps a cascade text to a circuit; TurnedAway if it is refused.
+
+    Line 2 of the text may be `(keep a b ..)`, with lines of the circuit that nobody
+    may borrow: such a line is used only by the gates that name it.
+    """
     return _written("map", text)
 
 

@@ -87,6 +87,11 @@ impl Gate {
         }
     }
 
+    /// Whether a line is its control or its target.
+    pub fn touches(self, line: u8) -> bool {
+        self.target() == line || self.has_control(line)
+    }
+
     fn target(self) -> u8 {
         match self {
             Not { target } | Powered { target, .. } => target,

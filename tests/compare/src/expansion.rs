@@ -1,5 +1,6 @@
 //! The expansion of a cascade as the scope document words it, with the spares of
-//! order 5 and the NOTs of negated controls; nothing here is shared with the peer.
+//! order 5, the kept lines of order 8 and the NOTs of negated controls; nothing here is
+//! shared with the peer.
 //!
 //! It is a rewriting: in a list of steps each gate that is still due gives way to
 //! the gates and the smaller ones that it is made from, until none is due.
@@ -36,16 +37,22 @@ struct Due {
 
 /// All gates, expanded in order and joined.
 pub fn of_all(lines: u8, mcts: &[Mct]) -> Vec<Gate> {
-    mcts.iter().flat_map(|mct| of(lines, mct)).collect()
+    keeping(lines, &[], mcts)
+}
+
+/// The same with these lines kept.
+pub fn keeping(lines: u8, kept: &[u8], mcts: &[Mct]) -> Vec<Gate> {
+    let each = |mct: &Mct| of(mct, mct.spares(lines, kept));
+    mcts.iter().flat_map(each).collect()
 }
 
 /// A NOT on each negated line, the expansion of the gate without signs, and the
 /// NOTs again.
-fn of(lines: u8, mct: &Mct) -> Vec<Gate> {
+fn of(mct: &Mct, spares: Vec<u8>) -> Vec<Gate> {
     let mut steps = vec![Step::Due(Due {
         controls: mct.lines(),
         target: mct.target,
-        spares: mct.unnamed(lines),
+        spares,
         undone: false,
     })];
     while steps.iter().any(|step| matches!(step, Step::Due(_))) {

@@ -318,6 +318,7 @@ fn pairs(random: &mut Random) -> Vec<[Vec<u8>; 2]> {
         [good.clone(), b"(lines 33)\n".to_vec()],
         [good.clone(), b"(lines 3)\n(cn 0 1)\n(not 3)\n".to_vec()],
         [good.clone(), b"(lines 3)\n(v 1 1)\n".to_vec()],
+        [good.clone(), b"(lines 3)\n(keep 2)\n(cn 1 2)\n".to_vec()],
         [good.clone(), texts::circuit_of(random, 4_097)],
         [good.clone(), Vec::new()],
         [good.clone(), good[..good.len() - 1].to_vec()],

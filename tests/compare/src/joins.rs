@@ -641,6 +641,7 @@ impl Joins {
             bad(b"(lines 3)\n(cn 0 1)\n(v 1 2)", 3, 3),
             bad(b"(lines 3)\n(mct (0 1) 2)\n", 3, 2),
             bad(b"(lines 3)\n(cn 0 1)\n(v -1 2)\n", 3, 3),
+            bad(b"(lines 3)\n(keep 2)\n(cn 0 1)\n", 3, 2),
             bad(&overlong[..60_000], 3, 4_098),
             bad(b"(lines 33)\n", 4, 1),
             bad(b"(lines 4)\n(cn 0 1)\n(v 1 4)\n(v 1 1)\n", 4, 3),

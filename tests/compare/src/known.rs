@@ -65,6 +65,11 @@ pub fn all() -> Vec<Known> {
     let past_nots = format!("(lines 17)\n{}", mct(15, 15).repeat(11));
     let past_nots = past_nots.replacen("(0 1 2 3", "(-0 -1 2 -3", 1);
     let past_mcts_negated = past_mcts.replace("(0)", "(-0)");
+    let all_kept = format!("(lines 2)\n(keep 0 1)\n{}", mct(1, 1).repeat(256));
+    let past_mcts_kept = format!("{all_kept}{}", mct(1, 1));
+    // Sixteen controls, and the only other line kept, which is 8; with one more it is 7.
+    let wide_kept = format!("(lines 18)\n(keep 17)\n{}", mct(16, 16));
+    let too_wide_kept = format!("(lines 19)\n(keep 17)\n{}", mct(16, 16));
     let full = format!("(lines 32)\n{}", "(vp 30 31)\n(vp 31 30)\n".repeat(2_048));
     let past_full = format!("{full}(not 0)\n");
     let map = [
@@ -102,6 +107,23 @@ pub fn all() -> Vec<Known> {
         ("(lines 4)\n(mct (-0 1 -2) 3)\n", refused(8, 2)),
         (&past_nots, refused(9, 12)),
         (&past_mcts_negated, refused(9, 258)),
+        // tests/peer has how the list of the second is found by hand.
+        ("(lines 5)\n(keep 4)\n(mct (0 1 2) 3)\n", refused(8, 3)),
+        ("(lines 6)\n(keep 4)\n(mct (0 1 2) 3)\n", accepted(14, 131)),
+        ("(lines 3)\n(keep 0 1 2)\n(mct (0 1) 2)\n", accepted(5, 53)),
+        ("(lines 3)\n(keep 0 1 2)\n", accepted(0, 10)),
+        (&all_kept, accepted(0, 10)),
+        (&past_mcts_kept, refused(9, 259)),
+        (&wide_kept, refused(8, 3)),
+        (&too_wide_kept, refused(7, 3)),
+        ("(lines 3)\n(keep)\n(mct (0 1) 2)\n", refused(3, 2)),
+        ("(lines 3)\n(keep -0)\n", refused(3, 2)),
+        ("(lines 3)\n(keep 0)", refused(3, 2)),
+        ("(lines 3)\n(keep 1 0 3)\n", refused(4, 2)),
+        ("(lines 3)\n(keep 1 1)\n", refused(6, 2)),
+        ("(lines 3)\n(keep 0)\n(keep 1)\n", refused(3, 3)),
+        ("(lines 3)\n(mct (0 1) 2)\n(keep 0)\n", refused(3, 3)),
+        ("(keep 0)\n(lines 3)\n", refused(3, 1)),
     ];
     let reduce = [
         ("(lines 2)\n(v 0 1)\n(v 0 1)\n", accepted(1, 19)),
@@ -124,6 +146,9 @@ pub fn all() -> Vec<Known> {
         ("(lines 2)\n(mct (-0) 1)\n", refused(3, 2)),
         (&wide_no_spare, refused(3, 2)),
         (&too_wide, refused(3, 2)),
+        ("(lines 2)\n(keep 0)\n(v 0 1)\n", refused(3, 2)),
+        ("(lines 2)\n(keep 0)\n", refused(3, 2)),
+        ("(lines 2)\n(v 0 1)\n(keep 0)\n", refused(3, 3)),
     ];
     // The gates reversed, v and vp exchanged, then reduced.
     let invert = [
@@ -151,6 +176,8 @@ pub fn all() -> Vec<Known> {
         ("(lines 2)\n(v 0 1)\n(v -0 1)\n", refused(3, 3)),
         ("(lines 2)\n(mct (0) 1)\n", refused(3, 2)),
         (&too_wide, refused(3, 2)),
+        ("(lines 2)\n(keep 0)\n(v 0 1)\n", refused(3, 2)),
+        ("(lines 2)\n(keep 2)\n", refused(3, 2)),
     ];
     let known = |job| {
         move |&(text, ample): &(&str, Outcome)| Known {

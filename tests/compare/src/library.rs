@@ -3,14 +3,17 @@
 //! them. What the papers say of an answer by themselves, of the answers of one text
 //! with several areas, of negated controls (see `negated`), and of the inverse of an
 //! inverse, is asserted without the peer too; what order 5 says of spares (see
-//! `spares`), and order 6 of rules 7 and 8 (see `wide`), beside it.
+//! `spares`), order 6 of rules 7 and 8 (see `wide`), and order 8 of kept lines (see
+//! `kept`), beside it.
 
 use crate::built::{self, Drawn};
 use crate::circuit::{self, Gate};
+use crate::kept;
 use crate::known::{self, Known};
 use crate::negated;
 use crate::random::Random;
 use crate::report::{shown, Report};
+use crate::rules::Refusal;
 use crate::spares::{self, Size};
 use crate::subject::{call, holds, read_record, Area};
 use crate::texts::{self, Signs};
@@ -51,9 +54,17 @@ const WIDE: wide::Size = wide::Size {
     whole: true,
     random: 6_000,
 };
+/// What is run of the order of kept lines.
+const KEPT: kept::Size = kept::Size {
+    whole: true,
+    random: 6_000,
+    laws: 900,
+};
+/// Texts with a keep line that are damaged at random.
+const KEPT_DAMAGED: usize = 6_000;
 /// Other lists and areas than one of 4,096 records with an area of no byte and with an
 /// ample one.
-const WIDE_AREAS: [(usize, usize); 8] = [
+const OTHER_AREAS: [(usize, usize); 8] = [
     (4_097, 0),
     (4_095, 0),
     (5_000, 50_000),
@@ -91,7 +102,7 @@ pub fn run() -> Report {
         numbers: [[0; 11]; CALLS.len()],
         signed: [0; 11],
     };
-    let parts: [(&str, Part); 16] = [
+    let parts: [(&str, Part); 19] = [
         ("answer areas of every length", Library::every_area),
         ("every single change of small texts", Library::every_change),
         ("valid texts", Library::valid),
@@ -104,6 +115,9 @@ pub fn run() -> Report {
         ("spares, beside the peer", Library::spares),
         ("spares, answer areas", Library::spares_areas),
         ("too wide against no spare", Library::wide),
+        ("kept lines", Library::kept),
+        ("kept lines, changed texts", Library::kept_changed),
+        ("kept lines, without the peer", Library::kept_laws),
         ("linked circuits", Library::linked),
         ("long circuits of known lists", Library::built),
         ("long circuits redrawn by passes", Library::redrawn),
@@ -187,6 +201,8 @@ impl Library {
             "what the papers say of gates and bytes"
         } else if job != Job::Map && got.number == 0 && text.contains(&b'-') {
             "what the papers say of a minus sign in a circuit"
+        } else if job != Job::Map && got.number == 0 && has_keep_line(text) {
+            "what the papers say of a keep line in a circuit"
         } else {
             ""
         };
@@ -604,20 +620,12 @@ impl Library {
         let mut tally = Tally::default();
         for (turn, case) in wide::cases(&mut self.random, WIDE).iter().enumerate() {
             let text = case.text();
-            let areas = [0, LONGEST[turn % 2]];
-            let given = areas.map(|answer_len| self.wide_case(case, &text, 4_096, answer_len));
+            let areas = [(4_096, 0), (4_096, LONGEST[turn % 2])];
+            let given = areas.map(|lengths| self.wide_case(case, &text, lengths));
             self.agree(Job::Map, &text, &given);
-            let (list_len, answer_len) = WIDE_AREAS[turn % WIDE_AREAS.len()];
-            self.wide_case(case, &text, list_len, answer_len);
+            self.wide_case(case, &text, OTHER_AREAS[turn % OTHER_AREAS.len()]);
             if turn % 16 == 0 {
-                let job = CIRCUIT_JOBS[turn / 16 % 2];
-                let got = self.case(job, &text, 4_096, answer_len).outcome;
-                self.report.case((got.number, got.line) == (3, 2), || {
-                    format!(
-                        "{job:?}: got {got:?}, not 3 at line 2; text {}",
-                        shown(&text)
-                    )
-                });
+                self.no_circuit(CIRCUIT_JOBS[turn / 16 % 2], &text);
             }
             tally.add(case);
         }
@@ -637,31 +645,125 @@ impl Library {
         }
     }
 
-    /// Number and line are those that are due, and the gates where they are known.
-    fn wide_case(&mut self, case: &Case, text: &[u8], list_len: usize, answer_len: usize) -> Given {
+    /// A cascade to a job over circuits, for which its line 2 is not in form.
+    fn no_circuit(&mut self, job: Job, text: &[u8]) {
+        let answer_len = self.random.pick(&[0, 9, 50_000]);
+        let got = self.case(job, text, 4_096, answer_len).outcome;
+        self.report.case((got.number, got.line) == (3, 2), || {
+            format!(
+                "{job:?}: got {got:?}, not 3 at line 2; text {}",
+                shown(text)
+            )
+        });
+    }
+
+    fn wide_case(&mut self, case: &Case, text: &[u8], lengths: (usize, usize)) -> Given {
+        self.due_case(text, lengths, case.due, case.quote(), || {
+            format!("{:?}, before order 6 {:?}", case.kind, case.before)
+        })
+    }
+
+    /// Map on a list and an answer area of these lengths: number and line are those that
+    /// are due, and the gates where they are known.
+    fn due_case(
+        &mut self,
+        text: &[u8],
+        (list_len, answer_len): (usize, usize),
+        due: Option<Refusal>,
+        gates: Option<usize>,
+        what: impl FnOnce() -> String,
+    ) -> Given {
         let given = self.case(Job::Map, text, list_len, answer_len);
         let got = given.outcome;
-        let due = match case.due {
+        let due = match due {
             _ if list_len < 4_096 => (2, 0),
             Some(refusal) => refusal,
             // Line 1 alone is longer than nine bytes.
             None if (1..=9).contains(&answer_len) => (10, 0),
             None => (0, 0),
         };
-        let gates = case.quote().filter(|_| due.0 == 0);
+        let gates = gates.filter(|_| due.0 == 0);
         let right = (got.number, got.line) == due
             && got.gates == gates.map_or(got.gates, |gates| gates as u64)
             && (due.0 < 3 || holds(&given.list, &[]));
         self.report.case(right, || {
             format!(
-                "{:?}, list of {list_len}, answer area of {answer_len}: got {got:?}, the rules say \
-                 {due:?} and gates {gates:?}, before order 6 {:?}; text {}",
-                case.kind,
-                case.before,
+                "{}, list of {list_len}, answer area of {answer_len}: got {got:?}, the rules say \
+                 {due:?} and gates {gates:?}; text {}",
+                what(),
                 shown(text)
             )
         });
         given
+    }
+
+    /// What the order says of kept lines, each text with several lists and areas, and with
+    /// the list that is worked out for it. In a circuit neither a keep line nor an mct line
+    /// is in form.
+    fn kept(&mut self) {
+        let mut tally = kept::Tally::default();
+        for (turn, case) in kept::cases(&mut self.random, KEPT).iter().enumerate() {
+            let text = case.text();
+            let areas = [(4_096, 0), (4_096, LONGEST[turn % 2])];
+            let given = areas.map(|lengths| self.kept_case(case, &text, lengths));
+            self.agree(Job::Map, &text, &given);
+            if let Some(list) = case.list() {
+                let records = circuit::records(&list);
+                let right = given.iter().all(|given| holds(&given.list, &records));
+                self.report.case(right, || {
+                    format!("Map: another list; text {}", shown(&text))
+                });
+            }
+            self.kept_case(case, &text, OTHER_AREAS[turn % OTHER_AREAS.len()]);
+            if turn % 8 == 0 && !case.has_only_line_1() {
+                self.no_circuit(CIRCUIT_JOBS[turn / 8 % 2], &text);
+            }
+            tally.add(case);
+        }
+        tally.tell(&mut self.report, KEPT);
+        for (size, due) in [(59_999, (6, 2)), (60_000, (6, 2)), (60_001, (1, 0))] {
+            let text = kept::long_text(size);
+            for lengths in [(4_096, 0), (5_000, 50_000)] {
+                self.due_case(&text, lengths, Some(due), None, || {
+                    "a long line".to_string()
+                });
+            }
+        }
+    }
+
+    fn kept_case(&mut self, case: &kept::Case, text: &[u8], lengths: (usize, usize)) -> Given {
+        self.due_case(text, lengths, case.due, case.quote(), || {
+            format!("{:?}", case.kind)
+        })
+    }
+
+    /// Every single change of small texts with a keep line, and random changes of others.
+    fn kept_changed(&mut self) {
+        for text in kept::SMALL {
+            let job = if text.contains("cn") {
+                Job::Reduce
+            } else {
+                Job::Map
+            };
+            for changed in texts::every_change(text.as_bytes()) {
+                self.with_and_without(job, &changed, 4_096, 300);
+            }
+        }
+        let size = kept::Size {
+            whole: false,
+            random: KEPT_DAMAGED,
+            laws: 0,
+        };
+        for case in kept::cases(&mut self.random, size) {
+            let text = texts::damaged(&mut self.random, &case.text());
+            self.any_job(&text);
+        }
+    }
+
+    /// What the order says of kept lines, by the answers of the library alone.
+    fn kept_laws(&mut self) {
+        let mut ask = |program: Program, text: &[u8]| Ok(program_answer(program, text));
+        kept::laws(&mut self.report, &mut self.random, KEPT.laws, &mut ask);
     }
 
     /// Two linked circuits get one list, and one list for their inverses.
@@ -814,6 +916,12 @@ fn program_answer(program: Program, text: &[u8]) -> Vec<u8> {
         (0, _) => answer.inside()[..bytes as usize].to_vec(),
         _ => format!("(turned-away {number} {line})\n").into_bytes(),
     }
+}
+
+/// Whether line 2 of a text begins like a keep line.
+fn has_keep_line(text: &[u8]) -> bool {
+    let end = text.iter().position(|&byte| byte == b'\n');
+    end.is_some_and(|end| text[end + 1..].starts_with(b"(keep"))
 }
 
 /// What the papers say of gates and bytes, whatever the text: a refusal has 0 for

@@ -7,9 +7,9 @@
 //!                       the programs map, reduce, invert, quote, compare and
 //!                       join in DIRECTORY, with files in SCRATCH
 //! `compare small`       reduce and invert on all small circuits, map on small
-//!                       cascades with negated controls, and compare and join on
-//!                       all pairs of smaller circuits, against their whole link
-//!                       classes
+//!                       cascades with negated controls and with kept lines, and
+//!                       compare and join on all pairs of smaller circuits, against
+//!                       their whole link classes
 //!
 //! Each part prints what it ran; its last line is `N passed, M failed`. The
 //! exit status is 0 only if N is not 0 and M is 0.
@@ -20,6 +20,7 @@ mod circuit;
 mod expansion;
 mod files;
 mod joins;
+mod kept;
 mod known;
 mod library;
 mod meaning;

@@ -393,6 +393,7 @@ impl Pairs {
             known(b"(lines 3)\n(mct (-0 1) 2)\n", 3, 2),
             known(b"(lines 3)\n(cn 0 1)\n(v -1 2)\n", 3, 3),
             known(b"(lines -3)\n(cn 0 1)\n", 3, 1),
+            known(b"(lines 3)\n(keep 2)\n(cn 0 1)\n", 3, 2),
             known(&overlong[..60_000], 3, 4_098),
             known(b"(lines 33)\n", 4, 1),
             known(b"(lines 3)\n(cn 0 1)\n(v 1 3)\n(v 1 1)\n", 4, 3),

@@ -2,12 +2,13 @@
 //! standard output, nothing on standard error, exit status 0; these and those over
 //! two texts through files (see `files`). Long circuits whose list the definitions
 //! give (see `built`), and what order 4 says of negated controls (see `negated`),
-//! are asserted without the peer; what order 5 says of spares (see `spares`), and order
-//! 6 of rules 7 and 8 (see `wide`), beside it.
+//! are asserted without the peer; what order 5 says of spares (see `spares`), order 6 of
+//! rules 7 and 8 (see `wide`), and order 8 of kept lines (see `kept`), beside it.
 
 use crate::built;
 use crate::circuit;
 use crate::files;
+use crate::kept;
 use crate::negated::{self, Ask};
 use crate::random::Random;
 use crate::report::{shown, Report};
@@ -45,6 +46,13 @@ const SPARES: Size = Size {
 const WIDE: wide::Size = wide::Size {
     whole: false,
     random: 120,
+};
+
+/// What is run of the order of kept lines.
+const KEPT: kept::Size = kept::Size {
+    whole: false,
+    random: 120,
+    laws: 60,
 };
 
 pub fn run(directory: &Path, scratch: &Path) -> Report {
@@ -117,6 +125,8 @@ pub fn run(directory: &Path, scratch: &Path) -> Report {
     negated::run(&mut report, &mut random, NEGATED, &mut ask);
     spares::run(&mut report, &mut random, SPARES, &mut ask);
     wide_gates(&mut report, &mut random, &mut ask);
+    kept_lines(&mut report, &mut random, &mut ask);
+    kept::laws(&mut report, &mut random, KEPT.laws, &mut ask);
     files::run(&mut report, directory, scratch);
     report
 }
@@ -202,10 +212,46 @@ fn wide_gates(report: &mut Report, random: &mut Random, ask: &mut Ask) {
     );
 }
 
+/// What the order says of kept lines: the answers that are due, which are the peer's too,
+/// of map and of quote in turn.
+fn kept_lines(report: &mut Report, random: &mut Random, ask: &mut Ask) {
+    let before = report.passed + report.failed;
+    let mut tally = kept::Tally::default();
+    for (turn, case) in kept::cases(random, KEPT).iter().enumerate() {
+        let text = case.text();
+        let program = [Program::Map, Program::Quote][turn % 2];
+        let due = match (case.due, case.list(), program) {
+            (Some((number, line)), _, _) => Some(format!("(turned-away {number} {line})\n")),
+            (None, Some(list), Program::Quote) => Some(format!("(quote {})\n", list.len())),
+            (None, Some(list), _) => String::from_utf8(circuit::text(case.lines, &list)).ok(),
+            (None, None, _) => None,
+        };
+        let got = ask(program, &text);
+        let peer = peer::program_answer(program, &text);
+        let right =
+            got.as_ref() == Ok(&peer) && !due.as_ref().is_some_and(|due| peer != due.as_bytes());
+        report.case(right, || {
+            let got = got.as_ref().map(|answer| shown(answer));
+            format!(
+                "{program:?}: got {got:?}, due {due:?}, the peer {}; text {}",
+                shown(&peer),
+                shown(&text)
+            )
+        });
+        tally.add(case);
+    }
+    tally.tell(report, KEPT);
+    println!(
+        "programs: kept lines: {} cases",
+        report.passed + report.failed - before
+    );
+}
+
 fn all_texts(random: &mut Random, program: Program) -> Vec<Vec<u8>> {
     let cascade = !CIRCUIT_PROGRAMS.contains(&program);
     let mut texts: Vec<Vec<u8>> = texts::SMALL
         .iter()
+        .chain(&kept::SMALL)
         .map(|text| text.as_bytes().to_vec())
         .collect();
     texts.push(Vec::new());

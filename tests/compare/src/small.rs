@@ -1,6 +1,7 @@
 //! Reduce and invert on all small circuits, map on small cascades with negated
-//! controls, and compare and join on all pairs of smaller circuits, against their whole
-//! link classes; and small circuits with a minus sign, which are malformed.
+//! controls and with kept lines, and compare and join on all pairs of smaller circuits,
+//! against their whole link classes; and small circuits with a minus sign or a keep line,
+//! which are malformed.
 //!
 //! For some lines and some length L, all circuits of at most L gates are nodes,
 //! and each pass and each merge between two of them joins two classes (a step
@@ -25,11 +26,13 @@
 use crate::circuit::{self, merge, pass, records, text, Gate};
 use crate::expansion;
 use crate::report::{shown, Report};
+use crate::rules::{self, Row};
+use crate::spares;
 use crate::subject::{call, compare, holds, join, Area};
 use crate::texts::{cascade_text, Control, Mct};
 use peer::Job;
 use std::cmp::Ordering;
-use std::collections::HashSet;
+use std::collections::{BTreeMap, HashSet};
 
 /// Lines, C and L.
 const SPACES: [(u8, usize, usize); 4] = [(1, 12, 14), (2, 6, 7), (3, 4, 5), (4, 3, 4)];
@@ -39,13 +42,21 @@ const PAIRS: [(u8, usize, usize); 4] = [(1, 6, 12), (2, 3, 6), (3, 2, 4), (4, 1,
 const CASCADES: [(u8, usize, usize); 4] = [(1, 3, 3), (2, 4, 12), (3, 2, 14), (4, 1, 9)];
 /// Cascades with a negated control, and circuits with a minus sign.
 const FEWEST_SIGNED: [usize; 2] = [1_000, 300];
+/// Gates of three controls on five and six lines with kept lines: those accepted, and those
+/// that have no spare. On n lines there are 4 (n over 4) gates and 2^n - 1 kept sets, of
+/// which 16 have all unnamed lines.
+const KEPT: [usize; 2] = [20 * 15 + 60 * 47, 20 * 16 + 60 * 16];
+/// Circuits with a keep line.
+const FEWEST_KEPT: usize = 300;
 
 pub fn run() -> Report {
     let mut report = Report::new("small");
     all_circuits(&mut report);
     all_pairs(&mut report);
     cascades(&mut report);
+    kept_cascades(&mut report);
     signed_circuits(&mut report);
+    kept_circuits(&mut report);
     report
 }
 
@@ -213,12 +224,8 @@ fn cascades(report: &mut Report) {
             signed += usize::from(negated);
             let class = forward(&expansion::of_all(lines, &mcts));
             reached += class.len();
-            // The order of the records is that of the gates.
-            let shortest = class
-                .iter()
-                .min_by_key(|gates| (gates.len(), records(gates)));
-            let expected = shortest.cloned().unwrap_or_default();
-            cascade(report, lines, &mcts, &expected);
+            let text = cascade_text(lines, &mcts);
+            cascade(report, lines, &text, &first_of_the_shortest(&class));
         }
         println!(
             "small: {lines} lines, cascades of up to {most} gates: {} cases, {reached} circuits reached",
@@ -231,14 +238,79 @@ fn cascades(report: &mut Report) {
     });
 }
 
-fn cascade(report: &mut Report, lines: u8, mcts: &[Mct], expected: &[Gate]) {
-    let cascade_text = cascade_text(lines, mcts);
+/// The first, in dictionary order, of the shortest; the order of the records is that of
+/// the gates.
+fn first_of_the_shortest(class: &HashSet<Vec<Gate>>) -> Vec<Gate> {
+    let shortest = class
+        .iter()
+        .min_by_key(|gates| (gates.len(), records(gates)));
+    shortest.cloned().unwrap_or_default()
+}
+
+/// Map on all gates of three controls on five and six lines, with all kept sets.
+fn kept_cascades(report: &mut Report) {
+    let mut counts = [0; 2];
+    for lines in [5, 6] {
+        let all = 0..1u32 << lines;
+        for named in all.clone().filter(|named| named.count_ones() == 4) {
+            for target in lines_of(named) {
+                let mct = spares::plain(&lines_of(named & !(1 << target)), target);
+                let lists = lists_by_spare(lines, &mct);
+                for kept in all.clone().skip(1).map(lines_of) {
+                    let spare = mct.spares(lines, &kept).first().copied();
+                    let text = rules::text(lines, &[Row::Keep(kept), Row::Gate(mct.clone())]);
+                    match spare {
+                        Some(spare) => cascade(report, lines, &text, &lists[&spare]),
+                        None => no_spare(report, &text),
+                    }
+                    counts[usize::from(spare.is_none())] += 1;
+                }
+            }
+        }
+    }
+    println!("small: {counts:?} gates with kept lines, accepted and without a spare");
+    report.case(counts == KEPT, || {
+        format!("{counts:?} gates with kept lines, and not {KEPT:?}")
+    });
+}
+
+/// The lines of a set, a bit for each.
+fn lines_of(set: u32) -> Vec<u8> {
+    (0..32).filter(|line| set >> line & 1 == 1).collect()
+}
+
+/// For each line that a gate does not name, the list by its whole class if that line is
+/// the only one not kept.
+fn lists_by_spare(lines: u8, mct: &Mct) -> BTreeMap<u8, Vec<Gate>> {
+    let unnamed = mct.unnamed(lines);
+    let list = |spare: &u8| {
+        let kept: Vec<u8> = unnamed.iter().copied().filter(|l| l != spare).collect();
+        let class = forward(&expansion::keeping(lines, &kept, std::slice::from_ref(mct)));
+        (*spare, first_of_the_shortest(&class))
+    };
+    unnamed.iter().map(list).collect()
+}
+
+/// A gate at line 3 that has no spare.
+fn no_spare(report: &mut Report, text: &[u8]) {
+    let mut list = Area::filled(4_096, 0xffff);
+    let mut answer = Area::filled(200, b'?');
+    let outcome = call(Job::Map, &Area::holding(text, 0), &mut list, &mut answer);
+    let passed = (outcome.number, outcome.line, outcome.gates, outcome.bytes) == (8, 3, 0, 0)
+        && written(&answer, &[])
+        && holds(&list, &[]);
+    report.case(passed, || {
+        format!("{} gives {outcome:?}, expected 8 at line 3", shown(text))
+    });
+}
+
+fn cascade(report: &mut Report, lines: u8, cascade_text: &[u8], expected: &[Gate]) {
     let expected_text = text(lines, expected);
     let mut list = Area::filled(4_096, 0xffff);
     let mut answer = Area::filled(200, b'?');
     let outcome = call(
         Job::Map,
-        &Area::holding(&cascade_text, 0),
+        &Area::holding(cascade_text, 0),
         &mut list,
         &mut answer,
     );
@@ -251,7 +323,7 @@ fn cascade(report: &mut Report, lines: u8, mcts: &[Mct], expected: &[Gate]) {
         let written = (outcome.bytes as usize).min(200);
         format!(
             "{} gives {outcome:?} {}, expected {}",
-            shown(&cascade_text),
+            shown(cascade_text),
             shown(&answer.inside()[..written]),
             shown(&expected_text)
         )
@@ -321,6 +393,32 @@ fn signed_circuits(report: &mut Report) {
     println!("small: {signed} circuits with a minus sign");
     report.case(signed >= FEWEST_SIGNED[1], || {
         format!("only {signed} circuits with a minus sign")
+    });
+}
+
+/// Small circuits with a keep line before any of their lines or after the last: malformed
+/// at that line, for the same jobs.
+fn kept_circuits(report: &mut Report) {
+    let mut kept = 0;
+    for (lines, most) in [(1, 2), (2, 2), (3, 1)] {
+        let space = Space::new(lines);
+        for node in 0..space.circuits_up_to(most) {
+            let circuit_text = text(lines, &space.gates(node));
+            let rows: Vec<&[u8]> = circuit_text
+                .split_inclusive(|&byte| byte == b'\n')
+                .collect();
+            for place in 0..=rows.len() {
+                let keep = format!("(keep {})\n", kept % usize::from(lines));
+                let mut with_keep = rows.clone();
+                with_keep.insert(place, keep.as_bytes());
+                kept += 1;
+                malformed(report, &circuit_text, &with_keep.concat(), place as u64 + 1);
+            }
+        }
+    }
+    println!("small: {kept} circuits with a keep line");
+    report.case(kept >= FEWEST_KEPT, || {
+        format!("only {kept} circuits with a keep line")
     });
 }
 

@@ -525,11 +525,15 @@ const EQUAL_CELLS: [&[usize]; 13] = [
 /// their places in their lists, and other lines in these places give the same list on
 /// other lines. The NOTs of a sign stay, since the line between them is a control.
 pub fn quote_of(lines: u8, mct: &Mct) -> usize {
-    let unnamed = mct.unnamed(lines).len();
+    quote_with(mct.unnamed(lines).len(), mct)
+}
+
+/// The same by the number of spares, of which more than six change nothing.
+pub fn quote_with(spares: usize, mct: &Mct) -> usize {
     let quote = match mct.controls.len() {
         0 | 1 => 1,
         2 => 5,
-        k => QUOTES[k - 3][unnamed.min(6) - 1],
+        k => QUOTES[k - 3][spares.min(6) - 1],
     };
     quote + 2 * mct.negated().count()
 }
@@ -570,7 +574,7 @@ pub fn near_the_limit(random: &mut Random, lines: u8) -> Vec<Mct> {
 }
 
 /// A gate that some of the rules 4 to 8 refuses.
-fn against_a_rule(random: &mut Random, lines: u8) -> Mct {
+pub fn against_a_rule(random: &mut Random, lines: u8) -> Mct {
     let signs = Signs::any(random);
     let width = usize::from(lines);
     loop {

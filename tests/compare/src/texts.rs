@@ -48,6 +48,18 @@ impl Mct {
             .collect()
     }
 
+    /// Those of its unnamed lines that are not kept.
+    pub fn spares(&self, lines: u8, kept: &[u8]) -> Vec<u8> {
+        let mut spares = self.unnamed(lines);
+        spares.retain(|line| !kept.contains(line));
+        spares
+    }
+
+    /// Whether it names a line, as control or as target.
+    pub fn names(&self, line: u8) -> bool {
+        line == self.target || self.lines().contains(&line)
+    }
+
     /// The gates of its expansion, two of them NOTs for each negated control.
     pub fn gates(&self) -> usize {
         EXPANSION[self.controls.len()] + 2 * self.negated().count()
@@ -111,6 +123,11 @@ pub fn mct_line(mct: &Mct) -> String {
     let controls = mct.controls.iter();
     let words: Vec<String> = controls.map(|c| control_word(c.line, c.negated)).collect();
     format!("(mct ({}) {})\n", words.join(" "), mct.target)
+}
+
+pub fn keep_line(numbers: &[u8]) -> String {
+    let words: Vec<String> = numbers.iter().map(u8::to_string).collect();
+    format!("(keep {})\n", words.join(" "))
 }
 
 pub fn cascade_text(lines: u8, mcts: &[Mct]) -> Vec<u8> {

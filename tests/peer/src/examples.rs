@@ -178,7 +178,8 @@ fn counts_of_the_expansion() {
         let high: Vec<u8> = low.iter().map(|c| 31 - c).rev().collect();
         for (lines, controls, target) in [(17, &low, 15), (32, &low, 15), (32, &high, 4)] {
             let mut gates = Vec::new();
-            expansion::expand_mct(lines, controls, &[], target, &mut gates);
+            let spares = expansion::unnamed(lines, controls, target);
+            expansion::expand_mct(controls, &[], target, &spares, &mut gates);
             assert_eq!(gates.len(), count);
         }
     }

@@ -9,19 +9,32 @@ use crate::gate::Gate;
 /// The most lines of a circuit, and so of any list of lines.
 const MOST_LINES: usize = 32;
 
-/// Appends the expansion of an mct gate on so many lines, on `target` with these
-/// controls, of which some are negated: a NOT on each negated line before the
-/// expansion of the gate without signs, and again after it. Controls and negated
-/// ones rise strictly, and leave a spare line if there are three or more.
-pub fn expand_mct(lines: u8, controls: &[u8], negated: &[u8], target: u8, gates: &mut Vec<Gate>) {
+/// Appends the expansion of an mct gate on `target` with these controls, of which some
+/// are negated, and these spares: a NOT on each negated line before the expansion of
+/// the gate without signs, and again after it. Controls and negated ones rise
+/// strictly, and there is a spare if there are three controls or more.
+pub fn expand_mct(
+    controls: &[u8],
+    negated: &[u8],
+    target: u8,
+    spares: &[u8],
+    gates: &mut Vec<Gate>,
+) {
     let nots = || negated.iter().map(|&line| Gate::not(line));
     gates.extend(nots());
-    expand(controls, target, &unnamed(lines, controls, target), gates);
+    expand(controls, target, spares, gates);
     gates.extend(nots());
 }
 
-/// The spares of an mct gate: all lines that it names neither as control nor as
-/// target, rising.
+/// The spares of an mct gate: all unnamed lines that are not kept, rising. The kept
+/// ones are given as a bit for each.
+pub fn spares(lines: u8, kept: u32, controls: &[u8], target: u8) -> Vec<u8> {
+    let mut spares = unnamed(lines, controls, target);
+    spares.retain(|&line| kept >> line & 1 == 0);
+    spares
+}
+
+/// All lines that an mct gate names neither as control nor as target, rising.
 pub fn unnamed(lines: u8, controls: &[u8], target: u8) -> Vec<u8> {
     let named = controls
         .iter()

@@ -271,6 +271,8 @@ mod examples;
 #[cfg(test)]
 mod inverse;
 #[cfg(test)]
+mod kept;
+#[cfg(test)]
 mod negated;
 #[cfg(test)]
 mod spares;

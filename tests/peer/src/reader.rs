@@ -1,5 +1,6 @@
 //! The reader of both texts, with rules 3 to 9 tried on each whole line, in the
-//! order of their numbers but for 8, which comes before 7.
+//! order of their numbers but for 8, which comes before 7. Line 2 of a cascade may be
+//! a keep line.
 
 use crate::gate::Gate;
 use crate::{expansion, Circuit, Kind, Refusal, MOST_GATES, MOST_MCTS};
@@ -36,18 +37,18 @@ pub fn read(kind: Kind, text: &[u8]) -> Result<Circuit, Refusal> {
         lines,
         gates: Vec::new(),
     };
-    let mut controls = Controls {
-        lines: Vec::with_capacity(16),
-        negated: Vec::with_capacity(16),
-    };
+    let mut cascade = Cascade::new();
     while !rest.is_empty() {
         line_number += 1;
         let tried = match next_line(&mut rest) {
             None => Err(MALFORMED),
             Some(line) => match kind {
                 Kind::Cascade => {
-                    let mcts_before = line_number as usize - 2;
-                    read_mct(line, &mut circuit, &mut controls, mcts_before)
+                    let keep = keep_form(line).filter(|_| line_number == 2);
+                    match keep {
+                        Some(numbers) => cascade.read_keep(lines, &numbers),
+                        None => cascade.read_mct(line, &mut circuit),
+                    }
                 }
                 Kind::Circuit => read_gate(line, &mut circuit),
             },
@@ -60,6 +61,16 @@ pub fn read(kind: Kind, text: &[u8]) -> Result<Circuit, Refusal> {
     Ok(circuit)
 }
 
+/// What is known of a cascade beside its lines and its expansion.
+struct Cascade {
+    /// The kept lines, a bit for each.
+    kept: u32,
+    /// How many mct lines were read.
+    mcts: usize,
+    /// Room for the controls of one line.
+    controls: Controls,
+}
+
 /// The controls of one mct line, in the order of the text.
 struct Controls {
     /// The line of each, whatever its sign: all that rules 4 to 8 see.
@@ -68,42 +79,69 @@ struct Controls {
     negated: Vec<u8>,
 }
 
-/// One mct line, rules 3 to 6, 8, 7 and 9.
-fn read_mct(
-    line: &[u8],
-    circuit: &mut Circuit,
-    controls: &mut Controls,
-    mcts_before: usize,
-) -> Result<(), u64> {
-    let lines = circuit.lines;
-    let target = mct_form(line, controls).ok_or(MALFORMED)?;
-    let Controls {
-        lines: controls,
-        negated,
-    } = controls;
-    if target >= lines || controls.iter().any(|&control| control >= lines) {
-        return Err(NO_SUCH_LINE);
+impl Cascade {
+    fn new() -> Cascade {
+        Cascade {
+            kept: 0,
+            mcts: 0,
+            controls: Controls {
+                lines: Vec::with_capacity(16),
+                negated: Vec::with_capacity(16),
+            },
+        }
     }
-    if controls.contains(&target) {
-        return Err(CROSSED);
+
+    /// The numbers of a keep line in form, rules 4 and 6.
+    fn read_keep(&mut self, lines: u8, numbers: &[u8]) -> Result<(), u64> {
+        if numbers.iter().any(|&number| number >= lines) {
+            return Err(NO_SUCH_LINE);
+        }
+        if !rise(numbers) {
+            return Err(UNSORTED);
+        }
+        self.kept = numbers.iter().fold(0, |kept, &line| kept | 1 << line);
+        Ok(())
     }
-    if controls.windows(2).any(|pair| pair[0] >= pair[1]) {
-        return Err(UNSORTED);
+
+    /// One mct line, rules 3 to 6, 8, 7 and 9.
+    fn read_mct(&mut self, line: &[u8], circuit: &mut Circuit) -> Result<(), u64> {
+        let lines = circuit.lines;
+        let target = mct_form(line, &mut self.controls).ok_or(MALFORMED)?;
+        let Controls {
+            lines: controls,
+            negated,
+        } = &self.controls;
+        if target >= lines || controls.iter().any(|&control| control >= lines) {
+            return Err(NO_SUCH_LINE);
+        }
+        if controls.contains(&target) {
+            return Err(CROSSED);
+        }
+        if !rise(controls) {
+            return Err(UNSORTED);
+        }
+        let spares = expansion::spares(lines, self.kept, controls, target);
+        if controls.len() >= 3 && spares.is_empty() {
+            return Err(NO_SPARE);
+        }
+        if controls.len() > 15 {
+            return Err(TOO_WIDE);
+        }
+        if self.mcts >= MOST_MCTS {
+            return Err(TOO_MANY);
+        }
+        self.mcts += 1;
+        expansion::expand_mct(controls, negated, target, &spares, &mut circuit.gates);
+        if circuit.gates.len() > MOST_GATES {
+            return Err(TOO_MANY);
+        }
+        Ok(())
     }
-    if controls.len() >= 3 && usize::from(lines) == controls.len() + 1 {
-        return Err(NO_SPARE);
-    }
-    if controls.len() > 15 {
-        return Err(TOO_WIDE);
-    }
-    if mcts_before >= MOST_MCTS {
-        return Err(TOO_MANY);
-    }
-    expansion::expand_mct(lines, controls, negated, target, &mut circuit.gates);
-    if circuit.gates.len() > MOST_GATES {
-        return Err(TOO_MANY);
-    }
-    Ok(())
+}
+
+/// Whether numbers rise strictly.
+fn rise(numbers: &[u8]) -> bool {
+    numbers.windows(2).all(|pair| pair[0] < pair[1])
 }
 
 /// One gate line of a circuit, rules 3, 4, 5 and 9.
@@ -135,6 +173,18 @@ fn next_line<'a>(rest: &mut &'a [u8]) -> Option<&'a [u8]> {
 fn header_form(line: &[u8]) -> Option<u8> {
     let (lines, rest) = number(line.strip_prefix(b"(lines ")?)?;
     (rest == b")").then_some(lines)
+}
+
+/// `(keep a b ..)`, of at least one number; gives the numbers.
+fn keep_form(line: &[u8]) -> Option<Vec<u8>> {
+    let mut rest = line.strip_prefix(b"(keep")?;
+    let mut numbers = Vec::new();
+    while let Some(next) = rest.strip_prefix(b" ") {
+        let (kept, after) = number(next)?;
+        numbers.push(kept);
+        rest = after;
+    }
+    (rest == b")" && !numbers.is_empty()).then_some(numbers)
 }
 
 /// `(mct (c1 c2 .. ck) t)`, where each control may have a minus sign directly

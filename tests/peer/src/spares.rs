@@ -6,7 +6,7 @@ use super::*;
 use crate::examples::{mapped, quoted, refused};
 
 /// The gates of a cascade's expansion, unreduced.
-fn expanded(text: &str) -> Vec<Gate> {
+pub fn expanded(text: &str) -> Vec<Gate> {
     match reader::read(Kind::Cascade, text.as_bytes()) {
         Ok(circuit) => circuit.gates,
         Err(refusal) => panic!("{refusal:?}"),
@@ -14,12 +14,12 @@ fn expanded(text: &str) -> Vec<Gate> {
 }
 
 /// The gate of one control.
-fn cn(control: u8, target: u8) -> Vec<Gate> {
+pub fn cn(control: u8, target: u8) -> Vec<Gate> {
     vec![Gate::powered(2, control, target)]
 }
 
 /// The gate of two controls a < b.
-fn toffoli(a: u8, b: u8, t: u8) -> Vec<Gate> {
+pub fn toffoli(a: u8, b: u8, t: u8) -> Vec<Gate> {
     vec![
         Gate::powered(1, b, t),
         Gate::powered(2, a, b),
@@ -31,7 +31,7 @@ fn toffoli(a: u8, b: u8, t: u8) -> Vec<Gate> {
 
 /// The gate on t made with the spare s from M0 and M1, both on s, and from M2 and
 /// M3, which undo them.
-fn made(s: u8, t: u8, m0: Vec<Gate>, m1: Vec<Gate>) -> Vec<Gate> {
+pub fn made(s: u8, t: u8, m0: Vec<Gate>, m1: Vec<Gate>) -> Vec<Gate> {
     let [m2, m3] = [&m0, &m1].map(|m| m.iter().rev().map(|gate| gate.undone()).collect());
     let v = || vec![Gate::powered(1, s, t)];
     let vp = || vec![Gate::powered(3, s, t)];
@@ -39,7 +39,7 @@ fn made(s: u8, t: u8, m0: Vec<Gate>, m1: Vec<Gate>) -> Vec<Gate> {
 }
 
 /// Whether map's answer and its count are those of an expansion.
-fn mapped_as(text: &str, expected: &[Gate]) {
+pub fn mapped_as(text: &str, expected: &[Gate]) {
     assert_eq!(expanded(text), expected, "{text}");
     let lines = text.strip_prefix("(lines ").unwrap();
     let lines = lines.split_once(')').unwrap().0.parse().unwrap();
@@ -271,8 +271,9 @@ fn three_and_four_controls_take_the_lowest_line() {
                     [a, b, c, d] => made(s, t, toffoli(a, b, s), toffoli(c, d, s)),
                     _ => unreachable!(),
                 };
+                let spares = expansion::unnamed(lines, &controls, t);
                 let mut gates = Vec::new();
-                expansion::expand_mct(lines, &controls, &[], t, &mut gates);
+                expansion::expand_mct(&controls, &[], t, &spares, &mut gates);
                 assert_eq!(gates, gate);
                 cases += 1;
             }

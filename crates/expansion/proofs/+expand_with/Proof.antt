@@ -12,7 +12,8 @@ use Rattle.gates.specs.Inverse.{inverse}
 use Rattle.gates.specs.Code.{code}
 use Rattle.gates.proofs.Inverses.{length-inverse}
 use Rattle.cascades.specs.Expansion.{joined, expand-with}
-use Rattle.expansion.specs.Spares.{Spares, listed}
+use Rattle.spares.specs.declared.Spares.{Spares}
+use Rattle.spares.specs.Spares.{listed}
 use Rattle.expansion.specs.Written.{Written}
 use Rattle.expansion.proofs.Circuits.{spared-fits, spared-codes}
 use Rattle.expansion.proofs.Writing.{both, later}

@@ -1,9 +1,10 @@
--- `expand` hands all unnamed lines to `expand_with`, where there are three or more controls. Assumes nothing.
+-- `expand` hands all unnamed, unkept lines to `expand_with`, where there are three or more controls. Assumes nothing.
 use mathlib.Core.Path.{ap}
 use native.Mathlib.Omega.{arith}
 use lib.ListN.{length}
 use borrow.Author.Needs.{needs}
 use Rattle.cascades.specs.Expansion.{mct-spares, expansion}
+use Rattle.cascades.specs.LineSets.{unpacked}
 use Rattle.expansion.proofs.Halves.{mct-spares-of}
 use Rattle.expansion.proofs.Few.{any-spares}
 use Rattle.expansion.proofs.expand.Statement.{statement}
@@ -14,7 +15,7 @@ unfolding expansion
 expand-few-requires c κs =
     let e = c .before .before .before .before in
     let a = e .args in
-    (omega (arith, c .before .if1 .taken), omega (arith, e .pre .1 .1 .1, ap length (any-spares (mct-spares (a .lines) (a .controls .now) (a .target)) (a .controls .now) (a .target) (omega (arith, c .before .if1 .taken)))))
+    (omega (arith, c .before .if1 .taken), omega (arith, e .pre .1 .1 .1, ap length (any-spares (mct-spares (a .lines) (unpacked 32 0 (a .kept)) (a .controls .now) (a .target)) (a .controls .now) (a .target) (omega (arith, c .before .if1 .taken)))))
 
 same-length : tie.Need-same-length
 same-length c = search needs
@@ -23,7 +24,7 @@ returns : tie.Need-returns
 unfolding expansion
 returns c =
     let a = c .before .before .before .before .before .before .before .args in
-    rw (any-spares (mct-spares (a .lines) (a .controls .now) (a .target)) (a .controls .now) (a .target) (omega (arith, c .before .before .before .before .if1 .taken))) (c .before .before .expand-few .ensures)
+    rw (any-spares (mct-spares (a .lines) (unpacked 32 0 (a .kept)) (a .controls .now) (a .target)) (a .controls .now) (a .target) (omega (arith, c .before .before .before .before .if1 .taken))) (c .before .before .expand-few .ensures)
 
 unnamed-requires : tie.Need-unnamed-requires
 unnamed-requires c κs = let e = c .before .before .before in (e .pre .0, (e .pre .1 .0 .line, e .pre .1 .1 .0))
@@ -34,7 +35,7 @@ expand-with-requires c κs =
     let e = c .before .before .before .before .before in
     let a = e .args in
     let u = c .before .unnamed in
-    (mct-spares-of (a .lines) (a .controls .now) (a .target) (u .result) (e .pre .0) (e .pre .1 .0) (e .pre .1 .1 .0) (u .ensures), rw (u .ensures .are) (e .pre .1 .1 .1))
+    (mct-spares-of (a .lines) (unpacked 32 0 (a .kept)) (a .controls .now) (a .target) (u .result) (e .pre .0) (e .pre .1 .0) (e .pre .1 .1 .0) (u .ensures), rw (u .ensures .are) (e .pre .1 .1 .1))
 
 same-length-2 : tie.Need-same-length-2
 same-length-2 c = search needs

@@ -3,7 +3,7 @@ use mathlib.Core.Path.{_≡_}
 use native.Mathlib.Omega.{arith}
 use lib.ListN.{length}
 use borrow.Author.Needs.{needs}
-use Rattle.expansion.specs.Spares.{listed}
+use Rattle.spares.specs.Spares.{listed}
 use Rattle.expansion.proofs.SpareLists.{slice-first}
 use Rattle.expansion.proofs.first_spare.Statement.{statement}
 use Rattle.expansion.proofs.first_spare.Tie as tie

@@ -6,7 +6,7 @@ use native.Mathlib.Numerals.{add-one}
 use lib.ListN.{length, set, getD}
 use lib.Seq.{paste, paste-zero, paste-suc, length-paste}
 use borrow.Author.Needs.{needs}
-use Rattle.expansion.specs.Spares.{listed}
+use Rattle.spares.specs.Spares.{listed}
 use Rattle.expansion.proofs.SpareLists.{slice-pasted}
 use Rattle.expansion.proofs.followed.Statement.{statement}
 use Rattle.expansion.proofs.followed.Tie as tie

@@ -4,7 +4,7 @@ use mathlib.Core.List.{_++_}
 use native.Mathlib.Omega.{arith}
 use lib.ListN.{length}
 use borrow.Author.Needs.{needs}
-use Rattle.expansion.specs.Spares.{listed}
+use Rattle.spares.specs.Spares.{listed}
 use Rattle.expansion.proofs.SpareLists.{slice-rest}
 use Rattle.expansion.proofs.m1_spares.Statement.{statement}
 use Rattle.expansion.proofs.m1_spares.Tie as tie

@@ -1,6 +1,5 @@
 -- `judging::gate_line` meets its contract. Assumes nothing.
 use borrow.Author.Needs.{needs}
-use mathlib.Core.Path.{refl}
 use denote.Ref.{now}
 use lib.ListN.{drop}
 use Rattle.reading.specs.Seen.{seen-gate}
@@ -19,14 +18,15 @@ enum-known-g c = search needs
 enum-told : tie.Need-enum-told
 enum-told c = search needs
 
-add-t10 : tie.Need-add-t10
-add-t10 c = search needs
+line-number-requires : tie.Need-line-number-requires
+line-number-requires c κs = search needs
 
 returns : tie.Need-returns
 returns c =
-    let a = c .before .before .before .before .args in
-    let h = told (seen-gate (now (a .s))) (c .before .before .read-gate .ensures .0) (c .enum-told .given .1) in
-    (λ l e. line-malformed gate-lines (a .head) (a .before) l (drop (a .at) (now (a .s))) h, refl)
+    let b = c .before in
+    let a = b .before .before .before .before .args in
+    let h = told (seen-gate (now (a .s))) (b .before .before .read-gate .ensures .0) (b .enum-told .given .1) in
+    (λ l e. line-malformed gate-lines (a .head) (a .before) l (drop (a .at) (now (a .s))) h, c .line-number .ensures)
 
 gate-rules-requires : tie.Need-gate-rules-requires
 gate-rules-requires c κs = search needs
@@ -45,15 +45,16 @@ returns-2 c =
     let h = told (seen-gate (now (a .s))) (x .ensures .0) (b .g .given .1) in
     (λ l e. line-sound gate-lines (a .head) (a .before) l (drop (a .at) (now (a .s))) h (told seen-verdict (c .before .before .gate-rules .ensures l e) (c .enum-told2 .given .1)), rw (b .g .given .1) at (x .ensures .1))
 
-add-t12 : tie.Need-add-t12
-add-t12 c = search needs
+line-number-requires-2 : tie.Need-line-number-requires-2
+line-number-requires-2 c κs = search needs
 
 returns-3 : tie.Need-returns-3
 returns-3 c =
-    let b = c .before .before .before .before .before in
+    let r = c .before .before in
+    let b = r .before .before .before .before in
     let a = b .before .before .before .before .args in
     let h = told (seen-gate (now (a .s))) (b .before .before .read-gate .ensures .0) (b .g .given .1) in
-    (λ l e. line-broken gate-lines (a .head) (a .before) l (drop (a .at) (now (a .s))) h (told seen-verdict (c .before .before .before .gate-rules .ensures l e) (c .before .r .given .1)), refl)
+    (λ l e. line-broken gate-lines (a .head) (a .before) l (drop (a .at) (now (a .s))) h (told seen-verdict (r .before .before .gate-rules .ensures l e) (r .r .given .1)), c .line-number2 .ensures)
 
 pub gate-line-spec : {M : Type 1} → statement M
 gate-line-spec =
@@ -62,11 +63,11 @@ gate-line-spec =
     read-gate-requires
     enum-known-g
     enum-told
-    add-t10
+    line-number-requires
     returns
     gate-rules-requires
     enum-known-r
     enum-told-2
     returns-2
-    add-t12
+    line-number-requires-2
     returns-3)

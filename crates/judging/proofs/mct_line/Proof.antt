@@ -1,6 +1,5 @@
 -- `judging::mct_line` meets its contract. Assumes nothing.
 use borrow.Author.Needs.{needs}
-use mathlib.Core.Path.{refl}
 use denote.Ref.{now}
 use lib.ListN.{drop}
 use Rattle.text.specs.Reading.{parse}
@@ -22,16 +21,17 @@ enum-known-target c = search needs
 enum-told : tie.Need-enum-told
 enum-told c = search needs
 
-add-t13 : tie.Need-add-t13
-add-t13 c = search needs
+line-number-requires : tie.Need-line-number-requires
+line-number-requires c κs = search needs
 
 returns : tie.Need-returns
 returns c =
-    let a = c .before .before .before .before .before .args in
-    let x = c .before .before .before .read-mct in
+    let b = c .before in
+    let a = b .before .before .before .before .before .args in
+    let x = b .before .before .before .read-mct in
     let s = drop (a .at) (now (a .s)) in
-    let h = told (λ (e : TargetForm). seen-target (now (a .s)) e (x .result .controls)) (x .ensures .0) (c .enum-told .given .1) in
-    (λ l e. line-malformed mct-lines (a .head) (a .before) l s (with-gathered-none (only-mct (parse s)) h), refl)
+    let h = told (λ (e : TargetForm). seen-target (now (a .s)) e (x .result .controls)) (x .ensures .0) (b .enum-told .given .1) in
+    (λ l e. line-malformed mct-lines (a .head) (a .before) l s (with-gathered-none (only-mct (parse s)) h), c .line-number .ensures)
 
 mct-rules-requires : tie.Need-mct-rules-requires
 mct-rules-requires c κs =
@@ -58,17 +58,18 @@ returns-2 c =
     let g = with-gathered-is (only-mct (parse s)) (told (λ (e : TargetForm). seen-target (now (a .s)) e (x .result .controls)) (x .ensures .0) (b .target .given .1)) in
     ((g .0, g .1, λ l e. line-sound mct-lines (a .head) (a .before) l s (g .2) (told seen-verdict (c .before .before .mct-rules .ensures (g .0) l (g .1) e) (c .enum-told2 .given .1))), rw (b .target .given .1) at (x .ensures .1))
 
-add-t17 : tie.Need-add-t17
-add-t17 c = search needs
+line-number-requires-2 : tie.Need-line-number-requires-2
+line-number-requires-2 c κs = search needs
 
 returns-3 : tie.Need-returns-3
 returns-3 c =
-    let b = c .before .before .before .before .before in
+    let r = c .before .before in
+    let b = r .before .before .before .before in
     let a = b .before .before .before .before .before .args in
     let x = b .before .before .before .read-mct in
     let s = drop (a .at) (now (a .s)) in
     let g = with-gathered-is (only-mct (parse s)) (told (λ (e : TargetForm). seen-target (now (a .s)) e (x .result .controls)) (x .ensures .0) (b .target .given .1)) in
-    (λ l e. line-broken mct-lines (a .head) (a .before) l s (g .2) (told seen-verdict (c .before .before .before .mct-rules .ensures (g .0) l (g .1) e) (c .before .r .given .1)), refl)
+    (λ l e. line-broken mct-lines (a .head) (a .before) l s (g .2) (told seen-verdict (r .before .before .mct-rules .ensures (g .0) l (g .1) e) (r .r .given .1)), c .line-number2 .ensures)
 
 pub mct-line-spec : {M : Type 1} → statement M
 mct-line-spec =
@@ -77,11 +78,11 @@ mct-line-spec =
     read-mct-requires
     enum-known-target
     enum-told
-    add-t13
+    line-number-requires
     returns
     mct-rules-requires
     enum-known-r
     enum-told-2
     returns-2
-    add-t17
+    line-number-requires-2
     returns-3)

@@ -3,6 +3,7 @@ use borrow.Author.Needs.{needs}
 use native.Mathlib.Omega.{arith}
 use mathlib.Core.Path.{sym}
 use lib.Seq.{length-take-le}
+use Rattle.text.specs.Heads.{kept-lines}
 use Rattle.gathering.specs.Gathering.{listed}
 use Rattle.loading.proofs.expand_mct.Statement.{statement}
 use Rattle.loading.proofs.expand_mct.Tie as tie
@@ -26,7 +27,7 @@ slice-aggregate-expand-signed-2 c =
     sym (length-take-le (l .count) (l .first) (b .pre .0 .1))
 
 expand-signed-requires : tie.Need-expand-signed-requires
-unfolding listed
+unfolding listed kept-lines
 expand-signed-requires c κs =
     let w = c .before .before .before .before .before .before .before .before .pre .1 in
     (w .narrow, (w .expandable, (w .below, omega (arith, w .fits))))
@@ -35,7 +36,7 @@ same-length : tie.Need-same-length
 same-length c = search needs
 
 returns : tie.Need-returns
-unfolding listed
+unfolding listed kept-lines
 returns c = c .before .before .expand-signed .ensures
 
 pub expand-mct-spec : {M : Type 1} → statement M

@@ -1,6 +1,6 @@
 -- `loading::next_line` meets its contract. Assumes nothing.
 use borrow.Author.Needs.{needs}
-use Rattle.loading.proofs.Loading.{not-refused, ready-mct, ready-gate, mct-moves, gate-moves}
+use Rattle.loading.proofs.Loading.{not-refused, ready-mct, ready-gate, cascade-moves, gate-moves}
 use Rattle.loading.proofs.next_line.Statement.{statement}
 use Rattle.loading.proofs.next_line.Tie as tie
 
@@ -16,8 +16,8 @@ returns c = absurd (not-refused (c .before .before .before .before .pre) (c .enu
 enum-told-2 : tie.Need-enum-told-2
 enum-told-2 c = search needs
 
-next-mct-requires : tie.Need-next-mct-requires
-next-mct-requires c κs = ready-mct (c .before .before .before .before .before .before .before .before .pre) (c .before .before .before .before .so-far .given .1) (c .before .enum-told2 .given .1)
+next-of-cascade-requires : tie.Need-next-of-cascade-requires
+next-of-cascade-requires c κs = ready-mct (c .before .before .before .before .before .before .before .before .pre) (c .before .before .before .before .so-far .given .1) (c .before .enum-told2 .given .1)
 
 enum-told-3 : tie.Need-enum-told-3
 enum-told-3 c = search needs
@@ -31,7 +31,7 @@ same-length c = search needs
 returns-2 : tie.Need-returns-2
 returns-2 c =
     let b = c .before .before .before .before .before .before .before in
-    mct-moves (b .before .before .before .before .pre) (b .so-far .given .1) (c .before .before .before .before .enum-told2 .given .1) (c .before .before .next-mct .ensures)
+    cascade-moves (b .before .before .before .before .pre) (b .so-far .given .1) (c .before .before .before .before .enum-told2 .given .1) (c .before .before .next-of-cascade .ensures)
 
 same-length-2 : tie.Need-same-length-2
 same-length-2 c = search needs
@@ -49,7 +49,7 @@ next-line-spec =
     enum-told
     returns
     enum-told-2
-    next-mct-requires
+    next-of-cascade-requires
     enum-told-3
     next-gate-requires
     same-length

@@ -7,7 +7,7 @@ use Rattle.loading.proofs.next_mct.Statement.{statement}
 use Rattle.loading.proofs.next_mct.Tie as tie
 
 mct-line-requires : tie.Need-mct-line-requires
-mct-line-requires c κs = let w = c .before .before .pre in (omega (arith, w .more), ((w .sound .some, w .sound .narrow), (w .sound .counted, w .sound .few)))
+mct-line-requires c κs = let w = c .before .before .pre in (omega (arith, w .more), ((w .sound .some, w .sound .narrow), (w .sound .counted .0, w .sound .few)))
 
 enum-known-target : tie.Need-enum-known-target
 enum-known-target c = search needs

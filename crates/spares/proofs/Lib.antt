@@ -1,0 +1,4 @@
+-- The laws of this crate, in reading order.
+pub mod Lines
+pub mod Marked
+pub mod Sets
