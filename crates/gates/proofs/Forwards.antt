@@ -1,7 +1,7 @@
 -- Steps forwards make no gate with a control and a target that no gate had: what holds of each gate of a circuit, whatever its power, holds of each
 -- gate of its reduced list. Assumes nothing.
 use mathlib.Core.List.{List, [], _∷_, _++_}
-use Prim.Native.Nat.{ℕ, zero, suc, _+_, _-_, _%_}
+use Prim.Native.Nat.{ℕ, zero, suc, _+_, _%_}
 use Rattle.gates.specs.Every.{Every}
 use Rattle.gates.specs.declared.Gate.{Gate}
 use Rattle.gates.specs.declared.Gate.the-variants.{Not, Powered}
@@ -43,7 +43,7 @@ module _ (P : Gate → Type 0) (any : AnyPower P) where
   inverted-holds : (g : Gate) → P g → P (inverted g)
   unfolding inverted AnyPower
   inverted-holds (Not t) h = h
-  inverted-holds (Powered p c t) h = any p ((4 - p) % 4) c t h
+  inverted-holds (Powered p c t) h = any p _ c t h
 
   pub inverse-every : (c : List Gate) → Every P c → Every P (inverse c)
   unfolding inverse

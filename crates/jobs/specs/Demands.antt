@@ -4,16 +4,15 @@ use mathlib.Core.Path.{_≡_}
 use mathlib.Core.Logic.{_↔_, _≢_}
 use mathlib.Core.Bool.{true}
 use mathlib.Core.List.{List, [], _∷_, _++_, map}
-use Rattle.gates.specs.Every.{Every}
 use lib.ListN.{length, take, drop, replicate}
 use Rattle.gates.specs.declared.Gate.{Gate}
 use Rattle.gates.specs.declared.Gate.the-variants.{Not}
+use Rattle.gates.specs.Every.{Every}
 use Rattle.gates.specs.Circuit.{Linked}
 use Rattle.gates.specs.Reduced.{Reduced}
-use Rattle.meaning.specs.State.{SameMatrix}
-use Rattle.meaning.specs.Amplitude.{nought}
 use Rattle.meaning.specs.Pattern.{Pattern, has}
-use Rattle.meaning.specs.State.{run, basis}
+use Rattle.meaning.specs.Amplitude.{nought}
+use Rattle.meaning.specs.State.{basis, run, SameMatrix}
 use Rattle.cascades.specs.Cascade.{Controlled, after, expand-all, Realises}
 use Rattle.cascades.specs.Touching.{Touches, Touched, Named}
 use Rattle.text.specs.declared.Head.{Head}
