@@ -15,6 +15,7 @@
 //! On the other lines these are numbered in the same order. So the order of the gates
 //! stays, that of the spares too, and a list stays the first of the shortest.
 
+use crate::cases::Cases;
 use crate::circuit::{self, Gate};
 use crate::expansion;
 use crate::meaning;
@@ -287,25 +288,9 @@ fn loosen(lines: u8, kept: &mut Vec<u8>, mcts: &[Mct]) {
     }
 }
 
-/// The number that k controls with so many spares get, where rules 3 to 6 pass.
-fn number(k: usize, spares: usize) -> Option<u64> {
-    if k >= 3 && spares == 0 {
-        Some(8)
-    } else if k > 15 {
-        Some(7)
-    } else {
-        None
-    }
-}
-
 /// All cases of this size.
 pub fn cases(random: &mut Random, size: Size) -> Vec<Case> {
-    let mut cases = Cases {
-        random,
-        whole: size.whole,
-        turn: 0,
-        all: Vec::new(),
-    };
+    let mut cases = Cases::new(random, size.whole);
     cases.sets();
     cases.spares();
     cases.heads();
@@ -317,14 +302,7 @@ pub fn cases(random: &mut Random, size: Size) -> Vec<Case> {
     cases.all
 }
 
-struct Cases<'a> {
-    random: &'a mut Random,
-    whole: bool,
-    turn: usize,
-    all: Vec<Case>,
-}
-
-impl Cases<'_> {
+impl Cases<'_, Case> {
     fn add(&mut self, kind: Kind, lines: u8, rows: Vec<Row>, due: Option<Refusal>) {
         // The rules, one by one, say the same.
         assert_eq!(rules::refusal(rules::NOW, lines, &rows), due);
@@ -395,7 +373,7 @@ impl Cases<'_> {
         if kept.is_empty() {
             kept.push(mct.target);
         }
-        let due = number(k, spares).map(|number| (number, 3));
+        let due = rules::by_8_then_7(k, spares).map(|number| (number, 3));
         self.add(Kind::Spares, lines, with_keep(&kept, &[mct]), due);
     }
 

@@ -15,6 +15,7 @@
 //! exit status is 0 only if N is not 0 and M is 0.
 
 mod built;
+mod cases;
 mod chain;
 mod circuit;
 mod expansion;

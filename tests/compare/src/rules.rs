@@ -36,6 +36,17 @@ pub fn text(lines: u8, rows: &[Row]) -> Vec<u8> {
     text.into_bytes()
 }
 
+/// The number that k controls with so many spares get, where the rules before 8 pass.
+pub fn by_8_then_7(k: usize, spares: usize) -> Option<u64> {
+    if k >= 3 && spares == 0 {
+        Some(8)
+    } else if k > 15 {
+        Some(7)
+    } else {
+        None
+    }
+}
+
 /// What the lines before one have given: the kept lines, how many mct lines, and how many
 /// gates of their expansions.
 #[derive(Default)]

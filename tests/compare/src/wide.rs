@@ -4,6 +4,7 @@
 //! themselves; and random ones, whose refusal is the one of before but where the order
 //! changes it. None of it comes from the peer.
 
+use crate::cases::Cases;
 use crate::random::Random;
 use crate::report::Report;
 use crate::rules::{self, Refusal, Row};
@@ -81,25 +82,14 @@ impl Case {
     }
 }
 
-/// The number that k controls on n lines get, where rules 3 to 6 pass.
+/// The number that k controls on n lines get, none of them kept, where rules 3 to 6 pass.
 fn number(k: usize, n: u8) -> Option<u64> {
-    if k >= 3 && usize::from(n) == k + 1 {
-        Some(8)
-    } else if k > 15 {
-        Some(7)
-    } else {
-        None
-    }
+    rules::by_8_then_7(k, usize::from(n) - k - 1)
 }
 
 /// All cases of this size.
 pub fn cases(random: &mut Random, size: Size) -> Vec<Case> {
-    let mut cases = Cases {
-        random,
-        whole: size.whole,
-        turn: 0,
-        all: Vec::new(),
-    };
+    let mut cases = Cases::new(random, size.whole);
     cases.around();
     cases.shapes();
     cases.within();
@@ -111,14 +101,7 @@ pub fn cases(random: &mut Random, size: Size) -> Vec<Case> {
     cases.all
 }
 
-struct Cases<'a> {
-    random: &'a mut Random,
-    whole: bool,
-    turn: usize,
-    all: Vec<Case>,
-}
-
-impl Cases<'_> {
+impl Cases<'_, Case> {
     fn add(&mut self, kind: Kind, lines: u8, rows: Vec<Row>, due: Option<Refusal>) {
         let before = rules::refusal(rules::BEFORE, lines, &rows);
         // The rules, one by one, say the same; and only the order of the two changes.

@@ -3,7 +3,7 @@
 
 use super::*;
 use crate::examples::{mapped, quoted, refused};
-use crate::spares::{cn, expanded, made, mapped_as, toffoli};
+use crate::spares::{cn, expanded, made, mapped_as, ten_controls_with_spare_11, toffoli};
 
 /// An mct line without signs.
 fn mct(controls: &[u8], target: u8) -> String {
@@ -136,19 +136,7 @@ fn a_kept_line_that_the_gate_names_is_borrowed() {
 /// kept, and the gate names them.
 #[test]
 fn the_target_and_controls_of_either_half_are_borrowed() {
-    let m0 = made(
-        10,
-        11,
-        toffoli(0, 1, 10),
-        made(5, 10, cn(2, 5), toffoli(3, 4, 5)),
-    );
-    let m1 = made(
-        0,
-        11,
-        toffoli(5, 6, 0),
-        made(1, 0, cn(7, 1), toffoli(8, 9, 1)),
-    );
-    let gate = made(11, 10, m0, m1);
+    let gate = ten_controls_with_spare_11();
     for kept in [
         "12",
         "10 12",

@@ -141,8 +141,7 @@ fn eight_controls_and_three_ancillary_lines() {
 /// 9: it takes 10. Its M1, on 10 with 2, 3 and 4, has 5 to 9, then 0 and 1: it takes
 /// 5. M1, on 11 with 5 to 9, has 0 to 4: it takes 0. Its M1, on 0 with 7, 8 and 9, has
 /// 1 to 4, then 5 and 6: it takes 1.
-#[test]
-fn ten_controls_and_one_spare() {
+pub fn ten_controls_with_spare_11() -> Vec<Gate> {
     let m0 = made(
         10,
         11,
@@ -155,9 +154,14 @@ fn ten_controls_and_one_spare() {
         toffoli(5, 6, 0),
         made(1, 0, cn(7, 1), toffoli(8, 9, 1)),
     );
+    made(11, 10, m0, m1)
+}
+
+#[test]
+fn ten_controls_and_one_spare() {
     mapped_as(
         "(lines 12)\n(mct (0 1 2 3 4 5 6 7 8 9) 10)\n",
-        &made(11, 10, m0, m1),
+        &ten_controls_with_spare_11(),
     );
 }
 
