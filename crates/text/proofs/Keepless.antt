@@ -62,7 +62,7 @@ gates n (keep l) = []
 gates n (gate g) = g ∷ []
 gates n (mct cs t) = expansion± n cs t
 
--- rule 8: "three or more controls and no unnamed line (n = k + 1)"
+-- rule 8 of document 01: "three or more controls and n = k + 1"
 unfoldable pub rules : Rules
 rules k n before c f =
     rule Malformed (not (belongs k f))
