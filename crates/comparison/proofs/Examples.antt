@@ -17,9 +17,8 @@ use Rattle.gates.specs.Circuit.{slot, power, powered, AllValid, valid-not, Link
 use Rattle.gates.proofs.Pushing.{merged, passes-dec, same-dec, less-dec, free-dec, turn-of, turn, place, push}
 use Rattle.gates.specs.Reduced.{Reduced}
 use Rattle.gates.proofs.Theorem.{nf, nf-reduced, reduced-unique}
-use Rattle.meaning.specs.Pattern.{has}
+use Rattle.meaning.specs.Pattern.{number, has}
 use Rattle.meaning.proofs.Flips.{both}
-use Rattle.cascades.specs.LineSets.{binary}
 use Rattle.text.specs.Heads.{head-of, line-below, unkept}
 use Rattle.text.specs.declared.Head.{Head}
 use Rattle.text.specs.declared.Kind.the-variants as kind
@@ -163,7 +162,7 @@ all-correct [] e = tt
 all-correct (r ∷ rs) e = let u = both (holds r) (all-hold rs) e in (holds-correct r (u .0), all-correct rs (u .1))
 
 pass : all-hold table ≡ true
-unfolding fits wider holds all-hold typed has strip second num tail pair R.control R.controls list many lines-body not-body mct-body powered-body parse whole read longer cut J.controls J.target J.gates belongs most any-from rising first head-rules rules or-else judge-lines head-of line-below binary keep-rules rest judge-rest judge-text read-all judge C.target slot power powered same-dec less-dec passes-dec merged free-dec turn-of turn place push nf ℕ-discrete decLt count-of then compare-numbers compare-gates dictionary compare-lists
+unfolding fits wider holds all-hold typed has strip second num tail pair R.control R.controls list many lines-body not-body mct-body powered-body parse whole read longer cut J.controls J.target J.gates belongs most any-from rising first head-rules rules or-else judge-lines head-of line-below number keep-rules rest judge-rest judge-text read-all judge C.target slot power powered same-dec less-dec passes-dec merged free-dec turn-of turn place push nf ℕ-discrete decLt count-of then compare-numbers compare-gates dictionary compare-lists
 pass = refl
 
 -- the examples of document 02's order 1

@@ -12,9 +12,8 @@ use Rattle.gates.specs.Circuit.{slot, power, powered}
 use Rattle.gates.specs.Inverse.{inverse, inverted}
 use Rattle.gates.proofs.Pushing.{merged, passes-dec, same-dec, less-dec, free-dec, turn-of, turn, place, push}
 use Rattle.gates.proofs.Theorem.{nf}
-use Rattle.meaning.specs.Pattern.{has}
+use Rattle.meaning.specs.Pattern.{number, has}
 use Rattle.meaning.proofs.Flips.{both}
-use Rattle.cascades.specs.LineSets.{binary}
 use Rattle.text.specs.Heads.{head-of, line-below}
 use Rattle.text.specs.declared.Kind.the-variants.{Circuit}
 use Rattle.text.specs.Text.{digits, spaced, one, two, word, render, rendered, circuit-text}
@@ -50,7 +49,7 @@ tests-correct [] t = tt
 tests-correct (r ∷ rs) t = let u = both (test r) (tests rs) t in (test-correct r (u .0), tests-correct rs (u .1))
 
 pass : tests table ≡ true
-unfolding answers fits test tests typed has inverse-judged inverse inverted strip second num tail pair R.signed R.control R.controls list many lines-body not-body mct-body powered-body parse whole read longer cut J.controls J.target J.gates belongs most any-from rising first head-rules rules or-else judge-lines head-of line-below binary keep-rules rest judge-rest judge-text read-all judge C.target slot power powered same-dec less-dec passes-dec merged free-dec turn-of turn place push nf ℕ-discrete decLt digits spaced one two word render rendered circuit-text
+unfolding answers fits test tests typed has inverse-judged inverse inverted strip second num tail pair R.signed R.control R.controls list many lines-body not-body mct-body powered-body parse whole read longer cut J.controls J.target J.gates belongs most any-from rising first head-rules rules or-else judge-lines head-of line-below number keep-rules rest judge-rest judge-text read-all judge C.target slot power powered same-dec less-dec passes-dec merged free-dec turn-of turn place push nf ℕ-discrete decLt digits spaced one two word render rendered circuit-text
 pass = refl
 
 pub examples : Every Correct table

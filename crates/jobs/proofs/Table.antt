@@ -13,10 +13,10 @@ use Rattle.gates.specs.declared.Gate.{Gate}
 use Rattle.gates.specs.Reduced.{Reduced}
 use Rattle.gates.specs.Circuit as C
 use Rattle.gates.specs.Circuit.{slot, power, powered, AllValid}
-use Rattle.meaning.specs.Pattern.{has}
+use Rattle.meaning.specs.Pattern.{number, has}
 use Rattle.gates.specs.Inverse.{inverse, inverted}
 use Rattle.cascades.specs.Expansion.{_⨾_, joined, lines-outside, mct-spares, first-spare, expand, expand-with, expansion}
-use Rattle.cascades.specs.LineSets.{binary, unpacked}
+use Rattle.cascades.specs.LineSets.{unpacked}
 use Rattle.cascades.specs.Control.{control-lines, negated-lines}
 use Rattle.cascades.specs.Signs.{nots, between-nots, expansion±}
 use Rattle.meaning.proofs.Flips.{both}
@@ -131,7 +131,7 @@ tests-correct [] t = tt
 tests-correct (r ∷ rs) t = let u = both (test r) (tests rs) t in (test-correct r (u .0), tests-correct rs (u .1))
 
 pass : (tests table && (tests signed-table && (tests published-table && (tests wide-table && tests kept-table)))) ≡ true
-unfolding answers fits test tests typed takes has inverse inverted _⨾_ joined lines-outside mct-spares expand expand-with expansion control-lines negated-lines nots between-nots expansion± binary unpacked strip second num tail pair R.signed R.control R.controls list many without-sign numbers lines-body keep-body not-body mct-body powered-body parse whole read longer cut head-of kept-lines line-below J.controls J.target J.gates belongs most any-from rising first head-rules keep-rules rules or-else judge-lines rest-by rest judge-rest judge-text read-all judge C.target slot power powered same-dec less-dec passes-dec merged free-dec turn-of turn place push nf ℕ-discrete decLt digits spaced one two word render rendered circuit-text
+unfolding answers fits test tests typed takes has inverse inverted _⨾_ joined lines-outside mct-spares expand expand-with expansion control-lines negated-lines nots between-nots expansion± number unpacked strip second num tail pair R.signed R.control R.controls list many without-sign numbers lines-body keep-body not-body mct-body powered-body parse whole read longer cut head-of kept-lines line-below J.controls J.target J.gates belongs most any-from rising first head-rules keep-rules rules or-else judge-lines rest-by rest judge-rest judge-text read-all judge C.target slot power powered same-dec less-dec passes-dec merged free-dec turn-of turn place push nf ℕ-discrete decLt digits spaced one two word render rendered circuit-text
 pass = refl
 
 pass-from-4 : (tests signed-table && (tests published-table && (tests wide-table && tests kept-table))) ≡ true

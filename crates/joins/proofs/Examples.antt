@@ -15,9 +15,8 @@ use Rattle.gates.specs.Circuit as C
 use Rattle.gates.specs.Circuit.{slot, power, powered, AllValid, valid-not}
 use Rattle.gates.proofs.Pushing.{merged, passes-dec, same-dec, less-dec, free-dec, turn-of, turn, place, push}
 use Rattle.gates.proofs.Theorem.{nf, nf-reduced, reduced-unique}
-use Rattle.meaning.specs.Pattern.{has}
+use Rattle.meaning.specs.Pattern.{number, has}
 use Rattle.meaning.proofs.Flips.{both}
-use Rattle.cascades.specs.LineSets.{binary}
 use Rattle.text.specs.Heads.{head-of, line-below, unkept}
 use Rattle.text.specs.declared.Kind.the-variants as kind
 use Rattle.text.specs.Refusals.{number-of}
@@ -131,7 +130,7 @@ all-correct [] e = tt
 all-correct (r ∷ rs) e = let u = both (holds r) (all-hold rs) e in (holds-correct r (u .0), all-correct rs (u .1))
 
 pass : all-hold table ≡ true
-unfolding fits holds all-hold typed judged plain-join passes require size-rules taken told text-judged has strip second num tail pair R.control R.controls list many lines-body not-body mct-body powered-body parse whole read longer cut J.controls J.target J.gates belongs most any-from rising first head-rules rules or-else judge-lines head-of line-below binary keep-rules rest judge-rest judge-text read-all judge C.target slot power powered same-dec less-dec passes-dec merged free-dec turn-of turn place push nf ℕ-discrete decLt digits spaced one two word render rendered circuit-text
+unfolding fits holds all-hold typed judged plain-join passes require size-rules taken told text-judged has strip second num tail pair R.control R.controls list many lines-body not-body mct-body powered-body parse whole read longer cut J.controls J.target J.gates belongs most any-from rising first head-rules rules or-else judge-lines head-of line-below number keep-rules rest judge-rest judge-text read-all judge C.target slot power powered same-dec less-dec passes-dec merged free-dec turn-of turn place push nf ℕ-discrete decLt digits spaced one two word render rendered circuit-text
 pass = refl
 
 -- the examples of document 02's order 7

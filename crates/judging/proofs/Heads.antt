@@ -9,8 +9,7 @@ use lib.ListN.{length, drop, length-append, length-drop}
 use lib.Dec.{leb}
 use borrow.Author.Tests.{leb-true, lt-leb, le-leb}
 use Rattle.meaning.proofs.Flips.{both}
-use Rattle.meaning.specs.Pattern.{has}
-use Rattle.cascades.specs.LineSets.{binary}
+use Rattle.meaning.specs.Pattern.{number, has}
 use Rattle.cascades.proofs.Halves.{below-more}
 use Rattle.cascades.proofs.Signless.{positive-lines}
 use Rattle.text.specs.declared.Refusal.the-variants.{Malformed, NoSuchLine, Unsorted}
@@ -99,7 +98,7 @@ has-head s at {h} e q a = let w = range (h .lines) q in record {
 
 -- what stands there is no keep line
 no-keep-form : (n : ℕ) (x : Line) (ls : List Line) → ((l : List ℕ) → x ≢ in-form (keep l)) → judge-rest Cascade n (rest Cascade (x ∷ ls)) ≡ judge-lines Cascade (unkept n) 0 [] (x ∷ ls)
-unfolding judge-rest rest rest-by keep-rules any-from rising first or-else head-of binary has
+unfolding judge-rest rest rest-by keep-rules any-from rising first or-else head-of number has
 no-keep-form n unformed ls w = refl
 no-keep-form n (in-form (keep l)) ls w = absurd (w l refl)
 no-keep-form n (in-form (lines m)) ls w = refl
@@ -123,7 +122,7 @@ no-keep n s e = go s (parse s) refl e
 
     go : (s : List ℕ) (x : Got Form) → parse s ≡ x → only-keep x ≡ none → judge-rest Cascade n (rest Cascade (read-all (cut s))) ≡ judge-lines Cascade (unkept n) 0 [] (read-all (cut s))
     go s (got f r) q z = rw (at-form s f r q) (no-keep-form n (in-form f) (read-all (cut r)) (other f r z))
-    go [] none q z = rw at-end (unfold judge-rest rest keep-rules any-from rising first or-else head-of binary has in refl)
+    go [] none q z = rw at-end (unfold judge-rest rest keep-rules any-from rising first or-else head-of number has in refl)
     go (b ∷ s) none q z = let w = at-bad b s q in rw (w .1) (no-keep-form n unformed (w .0) (λ l e. unread e))
 
 only-keep-is : (x : Got Form) {l r : List ℕ} → only-keep x ≡ got l r → x ≡ got (keep l) r

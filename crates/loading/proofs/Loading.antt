@@ -22,8 +22,7 @@ use Rattle.text.specs.Heads.{head-of, kept-lines, unkept, line-below}
 use Rattle.text.specs.declared.Kind.{Kind}
 use Rattle.text.specs.declared.Kind.the-variants.{Cascade, Circuit}
 use Rattle.text.specs.Judging.{Judged, turned-away, accepted, gates, most, controls, any-from, rising, first, keep-rules, or-else, judge-lines, rest, judge-rest, read-all, judge}
-use Rattle.meaning.specs.Pattern.{has}
-use Rattle.cascades.specs.LineSets.{binary}
+use Rattle.meaning.specs.Pattern.{number, has}
 use Rattle.text.proofs.Cursor.{at-end}
 use Rattle.text.proofs.Accepted.{Kept, good-valid, expandable}
 use Rattle.cascades.specs.declared.Control.{Control}
@@ -73,7 +72,7 @@ none-counted Circuit = refl
 first-lines : (k : Kind) (n : ℕ) (s : List ℕ) (at : ℕ) (l : List ℕ) → lines-from k s at 0 (unkept n) 0 l ≡ judge-at k n s at
 unfolding lines-from judge-at
 first-lines Cascade n s at l = refl
-first-lines Circuit n s at l = unfold judge-rest rest keep-rules any-from rising first or-else head-of binary has in refl
+first-lines Circuit n s at l = unfold judge-rest rest keep-rules any-from rising first or-else head-of number has in refl
 
 pub begun : {s : List ℕ} {at : ℕ} {h : Head} {next : ℕ} → HasHead s at h next → Begun s at (standing next 0 h 0)
 begun {s} {at} {h} {next} x = record {
@@ -167,7 +166,7 @@ module _ {k : Kind} {s : List ℕ} {at before : ℕ} {h : Head} {m : ℕ} {l : L
 
 -- no keep line stands there
 no-rest : (h : Head) → h .kept ≡ 0 → judge-rest Cascade (h .lines) (rest Cascade []) ≡ accepted h []
-unfolding judge-rest rest keep-rules any-from rising first or-else judge-lines head-of binary has
+unfolding judge-rest rest keep-rules any-from rising first or-else judge-lines head-of number has
 no-rest h b = let i : unkept (h .lines) ≡ h = λ x. record { lines = h .lines; kept = sym b x } in ap (λ (g : Head). accepted g []) i
 
 nothing-left : (h : Head) (s : List ℕ) (at : ℕ) → length s ≤ at → h .kept ≡ 0 → judge-at Cascade (h .lines) s at ≡ accepted h []

@@ -75,20 +75,21 @@ number-below (suc n) x = go (x 0) (number-below n (λ i. x (suc i)))
     go true h = omega (arith, two-pow-succ n)
     go false h = omega (arith, two-pow-succ n)
 
-lowest : (b : Bool) (k : ℕ) → eqb ((cond b 1 0 + 2 * k) % 2) 1 ≡ b
-lowest true k = let e : (1 + 2 * k) % 2 ≡ 1 = omega arith in rw e
-lowest false k = let e : (0 + 2 * k) % 2 ≡ 0 = omega arith in rw e
+-- the digits of a number by its lowest: that one, and the others
+pub lowest-digit : (b : Bool) (k : ℕ) → eqb ((cond b 1 0 + 2 * k) % 2) 1 ≡ b
+lowest-digit true k = let e : (1 + 2 * k) % 2 ≡ 1 = omega arith in rw e
+lowest-digit false k = let e : (0 + 2 * k) % 2 ≡ 0 = omega arith in rw e
 
-others : (b : Bool) (k : ℕ) → (cond b 1 0 + 2 * k) / 2 ≡ k
-others true k = omega arith
-others false k = omega arith
+pub other-digits : (b : Bool) (k : ℕ) → (cond b 1 0 + 2 * k) / 2 ≡ k
+other-digits true k = omega arith
+other-digits false k = omega arith
 
 -- and its digits are the pattern
 number-bit : (n : ℕ) (x : Pattern) (i : ℕ) → i < n → pattern (number n x) i ≡ x i
 unfolding number pattern
 number-bit zero x i h = absurd (omega arith)
-number-bit (suc n) x zero h = lowest (x 0) (number n (λ j. x (suc j)))
-number-bit (suc n) x (suc i) h = rw (others (x 0) (number n (λ j. x (suc j)))) (number-bit n (λ j. x (suc j)) i (omega arith))
+number-bit (suc n) x zero h = lowest-digit (x 0) (number n (λ j. x (suc j)))
+number-bit (suc n) x (suc i) h = rw (other-digits (x 0) (number n (λ j. x (suc j)))) (number-bit n (λ j. x (suc j)) i (omega arith))
 
 pub pattern-number : (n : ℕ) (x : Pattern) → agree n (pattern (number n x)) x ≡ true
 pattern-number n x = is-agree n (pattern (number n x)) x (number-bit n x)

@@ -3,17 +3,19 @@
 use mathlib.Core.Path.{_≡_, refl, sym, _∙_}
 use mathlib.Core.Bool.{Bool, true, false, cond, _&&_}
 use mathlib.Core.List.{List, _∷_, _++_}
-use Prim.Native.Nat.{ℕ, zero, suc, _+_, _-_, _*_, _/_, _%_, _≤_, _<_}
+use Prim.Native.Nat.{ℕ, zero, suc, _+_, _-_, _*_, _/_, _%_, _^_, _≤_, _<_}
 use native.Mathlib.Omega.{arith}
 use native.Mathlib.Numerals.{add-one}
+use native.Mathlib.Nat.{pow-le-pow-right}
 use lib.Dec.{eqb}
 use borrow.Author.Tests.{eq-eqb, ne-eqb}
 use lib.ListN.{length, getD, set}
-use Rattle.meaning.specs.Pattern.{has}
+use Rattle.meaning.specs.Pattern.{number, has}
 use Rattle.meaning.proofs.Flips.{has-append}
+use Rattle.meaning.proofs.Patterns.{number-below, number-agree}
 use Rattle.cascades.specs.Expansion.{lines-outside, mct-spares}
-use Rattle.cascades.specs.LineSets.{binary, packed, unpacked}
-use Rattle.cascades.proofs.LineSets.{unpacked-first, unpacked-later, binary-small, binary-alike}
+use Rattle.cascades.specs.LineSets.{packed, unpacked}
+use Rattle.cascades.proofs.LineSets.{unpacked-first, unpacked-later}
 use Rattle.cascades.proofs.SpareLists.{outside-alike}
 use Rattle.spares.specs.Marks.{mark, marked-number, is-taken, none-left}
 
@@ -21,16 +23,24 @@ use Rattle.spares.specs.Marks.{mark, marked-number, is-taken, none-left}
 
 -- marks of the lines of a list make its number
 pub marked-packed : (m : List Bool) (l : List ℕ) → ((i : ℕ) → i < 32 → getD m i false ≡ has i l) → marked-number m ≡ packed l
-marked-packed m l h = binary-alike (λ i. getD m i false) (λ i. has i l) 32 0 (λ j a b. h j (omega arith))
+marked-packed m l h = number-agree 32 (λ i. getD m i false) (λ i. has i l) h
 
 module _ (m : List Bool) where
+  -- the number of those from line i on
   abbrev pub digits-from : ℕ → ℕ
-  digits-from i = binary (λ j. getD m j false) (32 - i) i
+  digits-from i = number (32 - i) (λ j. getD m (i + j) false)
+
+  pub digits-all : digits-from 0 ≡ marked-number m
+  digits-all = number-agree 32 _ _ (λ j h. let e : 0 + j ≡ j = omega arith in rw e)
 
   -- one digit more
   digit-more : (i : ℕ) → i < 32 → digits-from i ≡ cond (getD m i false) 1 0 + 2 * digits-from (i + 1)
-  unfolding binary
-  digit-more i h = let e : 32 - i ≡ suc (32 - (i + 1)) = omega arith in rw (e, add-one i)
+  unfolding number
+  digit-more i h =
+      let e : 32 - i ≡ suc (32 - (i + 1)) = omega arith in
+      let here : i + 0 ≡ i = omega arith in
+      let later : number (32 - (i + 1)) (λ j. getD m (i + suc j) false) ≡ digits-from (i + 1) = number-agree (32 - (i + 1)) _ _ (λ j b. let q : i + suc j ≡ i + 1 + j = omega arith in rw q) in
+      rw (e, here, later)
 
   pub digit-1 : (i : ℕ) → i < 32 → getD m i false ≡ true → digits-from i ≡ 2 * digits-from (i + 1) + 1
   digit-1 i h e = digit-more i h ∙ rw e (omega arith)
@@ -39,7 +49,9 @@ module _ (m : List Bool) where
   digit-0 i h e = digit-more i h ∙ rw e (omega arith)
 
   pub digits-small : (i : ℕ) → 1 ≤ i → digits-from i < 2147483648
-  digits-small i h = binary-small (λ j. getD m j false) (32 - i) i (omega arith)
+  digits-small i h =
+      let most : 2 ^ (32 - i) ≤ 2147483648 = pow-le-pow-right {n = 2} (omega arith) {i = 32 - i} {j = 31} (omega arith) in
+      omega (arith, number-below (32 - i) (λ j. getD m (i + j) false), most)
 
 -- ---- the marks of a number
 

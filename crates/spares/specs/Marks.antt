@@ -4,7 +4,7 @@ use mathlib.Core.List.{List, [], _∷_}
 use Prim.Native.Nat.{ℕ, zero, suc, _/_, _%_}
 use lib.Dec.{eqb}
 use lib.ListN.{getD, set, replicate}
-use Rattle.cascades.specs.LineSets.{binary}
+use Rattle.meaning.specs.Pattern.{number}
 
 -- a mark on each line of the list, besides those that are there
 unfoldable pub mark : List Bool → List ℕ → List Bool
@@ -22,7 +22,7 @@ unmarked (suc k) i m = cond (getD m i false) (unmarked k (suc i) m) (i ∷ unmar
 
 -- the lines that have a mark, as a set
 abbrev pub marked-number : List Bool → ℕ
-marked-number m = binary (λ i. getD m i false) 32 0
+marked-number m = number 32 (λ i. getD m i false)
 
 -- the line i is taken: its digit in the set, the lowest, is 1, it is the target, or it has a mark
 abbrev pub is-taken : ℕ → ℕ → ℕ → Bool → Bool

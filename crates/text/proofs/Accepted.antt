@@ -14,7 +14,7 @@ use Rattle.gates.proofs.Every.{every-append, every-follows, every-map}
 use Rattle.gates.specs.declared.Gate.{Gate}
 use Rattle.gates.specs.declared.Gate.the-variants.{Not, Powered}
 use Rattle.gates.specs.Circuit.{valid-not, valid-powered, AllValid}
-use Rattle.meaning.specs.Pattern.{has}
+use Rattle.meaning.specs.Pattern.{number, has}
 use Rattle.cascades.specs.Expansion.{_⨾_, mct-spares, expand, expand-with, expansion, Expandable}
 use Rattle.cascades.specs.declared.Control.{Control}
 use Rattle.cascades.specs.Control.{positive, negative, control-lines, negated-lines}
@@ -33,7 +33,6 @@ use Rattle.text.specs.Text.{Form, lines, keep, gate, mct, render, render
 use Rattle.text.specs.Reading.{Line, in-form, unformed, read, cut}
 use Rattle.text.specs.declared.Kind.{Kind}
 use Rattle.text.specs.declared.Kind.the-variants.{Cascade, Circuit}
-use Rattle.cascades.specs.LineSets.{binary}
 use Rattle.text.specs.Heads.{head-of, kept-lines, unkept, line-below}
 use Rattle.text.specs.Judging.{Judged, turned-away, accepted, controls, target, gates, belongs, most, any-from, rising, Found, sound, breaks, Rule, rule, first, head-rules, keep-rules, rules, or-else, judge-lines, rest-by, rest, judge-rest, judge-text, read-all, judge}
 use Rattle.text.proofs.Printed.{read-only, reads, glued, glued-cut, cut-render}
@@ -433,7 +432,7 @@ circuit-of {h} w =
 
 -- and its head keeps no line
 pub circuit-head : {h : Head} {s : List ℕ} {c : List Gate} → Text Circuit h s c → h ≡ unkept (h .lines)
-unfolding head-of binary has
+unfolding head-of number has
 circuit-head {h} w = sym (w .head) ∙ ap (head-of (h .lines)) (w .in-cascades refl)
 
 -- so two circuit texts of as many lines have the same head

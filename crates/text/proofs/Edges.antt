@@ -6,7 +6,7 @@ use Prim.Native.Nat.{ℕ, zero, suc}
 use lib.Dec.{eqb}
 use lib.ListN.{length}
 use Rattle.gates.specs.declared.Gate.{Gate}
-use Rattle.meaning.specs.Pattern.{has}
+use Rattle.meaning.specs.Pattern.{number, has}
 use Rattle.gates.specs.Inverse.{inverse, inverted}
 use Rattle.cascades.specs.Expansion.{_⨾_, joined, lines-outside, mct-spares, expand, expand-with, expansion}
 use Rattle.cascades.specs.Control.{control-lines, negated-lines}
@@ -15,7 +15,7 @@ use Rattle.text.specs.declared.Head.{Head}
 use Rattle.text.specs.Text.{Form, bytes}
 use Rattle.text.specs.Reading as R
 use Rattle.text.specs.Reading.{strip, second, num, tail, pair, list, many, without-sign, numbers, lines-body, keep-body, not-body, mct-body, powered-body, parse, whole, read, longer, cut}
-use Rattle.cascades.specs.LineSets.{binary, unpacked}
+use Rattle.cascades.specs.LineSets.{unpacked}
 use Rattle.text.specs.Heads.{head-of, kept-lines, line-below}
 use Rattle.text.specs.Judging as J
 use Rattle.text.specs.declared.Kind.{Kind}
@@ -153,5 +153,5 @@ edges =
     ∷ []
 
 edges-hold : all-hold edges ≡ true
-unfolding times is-away is-passed holds all-hold has inverse inverted _⨾_ joined lines-outside mct-spares expand expand-with expansion strip second num tail pair R.signed control-lines negated-lines nots between-nots expansion± R.control R.controls list many without-sign numbers lines-body keep-body not-body mct-body powered-body parse whole read longer cut J.controls J.target J.gates belongs most any-from rising first head-rules keep-rules rules or-else binary unpacked head-of kept-lines line-below judge-lines rest-by rest judge-rest judge-text read-all judge
+unfolding times is-away is-passed holds all-hold has inverse inverted _⨾_ joined lines-outside mct-spares expand expand-with expansion strip second num tail pair R.signed control-lines negated-lines nots between-nots expansion± R.control R.controls list many without-sign numbers lines-body keep-body not-body mct-body powered-body parse whole read longer cut J.controls J.target J.gates belongs most any-from rising first head-rules keep-rules rules or-else number unpacked head-of kept-lines line-below judge-lines rest-by rest judge-rest judge-text read-all judge
 edges-hold = refl

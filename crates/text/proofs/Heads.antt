@@ -3,17 +3,18 @@ use mathlib.Core.Path.{_≡_, refl, sym, ap, _∙_}
 use mathlib.Core.Logic.{_≢_}
 use mathlib.Core.Bool.{Bool, true, false, cond}
 use mathlib.Core.List.{List, [], _∷_}
-use Prim.Native.Nat.{ℕ, zero, suc, _+_, _*_, _/_, _%_, _≤_, _<_}
+use Prim.Native.Nat.{ℕ, zero, suc, _+_, _≤_, _<_}
 use native.Mathlib.Omega.{arith}
 use lib.Dec.{eqb, ltb}
-use borrow.Author.Tests.{eq-eqb, ne-eqb, eqb-true, eqb-false, ltb-true}
+use borrow.Author.Tests.{ne-eqb, eqb-true, eqb-false, ltb-true}
 use Rattle.gates.specs.Every.{Every}
 use Rattle.gates.proofs.Every.{every-follows}
-use Rattle.meaning.specs.Pattern.{has}
+use Rattle.meaning.specs.Pattern.{Pattern, number, has}
 use Rattle.meaning.proofs.Flips.{both}
+use Rattle.meaning.proofs.Patterns.{lowest-digit, other-digits}
 use Rattle.cascades.specs.Cascade.{Below}
 use Rattle.text.specs.declared.Head.{Head}
-use Rattle.cascades.specs.LineSets.{binary, unpacked}
+use Rattle.cascades.specs.LineSets.{unpacked}
 use Rattle.text.specs.Heads.{head-of, kept-lines, unkept}
 use Rattle.text.specs.Judging.{rising}
 
@@ -21,33 +22,29 @@ use Rattle.text.specs.Judging.{rising}
 
 -- `(keep 4)` is 16, `(keep 0 31)` is 2^31 + 1
 four-kept : head-of 5 (4 ∷ []) .kept ≡ 16
-unfolding head-of binary has
+unfolding head-of number has
 four-kept = refl
 
 both-ends-kept : kept-lines (head-of 32 (0 ∷ 31 ∷ [])) ≡ 0 ∷ 31 ∷ []
-unfolding head-of binary has kept-lines unpacked
+unfolding head-of number has kept-lines unpacked
 both-ends-kept = refl
 
 -- ---- what is packed is unpacked
-
--- the digit of line i, and the digits of the lines after it
-digit-first : (b : Bool) (k : ℕ) → eqb ((cond b 1 0 + 2 * k) % 2) 1 ≡ b
-digit-first true k = eq-eqb ((1 + 2 * k) % 2) 1 (omega arith)
-digit-first false k = ne-eqb ((0 + 2 * k) % 2) 1 (λ e. omega (arith, e))
-
-digits-after : (b : Bool) (k : ℕ) → (cond b 1 0 + 2 * k) / 2 ≡ k
-digits-after true k = omega arith
-digits-after false k = omega arith
 
 -- of the m lines from i on, those of the list, rising
 unfoldable lines-inside : ℕ → ℕ → List ℕ → List ℕ
 lines-inside zero i l = []
 lines-inside (suc m) i l = cond (has i l) (i ∷ lines-inside m (suc i) l) (lines-inside m (suc i) l)
 
-unpacked-binary : (m i : ℕ) (l : List ℕ) → unpacked m i (binary (λ j. has j l) m i) ≡ lines-inside m i l
-unfolding binary unpacked lines-inside
-unpacked-binary zero i l = refl
-unpacked-binary (suc m) i l = let k = binary (λ j. has j l) m (suc i) in rw (digit-first (has i l) k, digits-after (has i l) k, unpacked-binary m (suc i) l)
+-- they are those of the number of a pattern in which they are 1
+unpacked-number : (m i : ℕ) (x : Pattern) (l : List ℕ) → ((j : ℕ) → x j ≡ has (i + j) l) → unpacked m i (number m x) ≡ lines-inside m i l
+unfolding number unpacked lines-inside
+unpacked-number zero i x l h = refl
+unpacked-number (suc m) i x l h =
+    let k = number m (λ j. x (suc j)) in
+    let here : x 0 ≡ has i l = let e : i + 0 ≡ i = omega arith in h 0 ∙ rw e in
+    let later : (j : ℕ) → x (suc j) ≡ has (suc i + j) l = λ j. let e : i + suc j ≡ suc i + j = omega arith in h (suc j) ∙ rw e in
+    rw (lowest-digit (x 0) k, other-digits (x 0) k, here, unpacked-number m (suc i) (λ j. x (suc j)) l later)
 
 -- ---- rising lines are those of the list
 
@@ -108,7 +105,7 @@ inside-all (suc m) i (c ∷ l) f b e = go (eqb i c) refl (inside-all m (suc i) l
 -- the kept lines of a text are those of its head
 pub kept-read : (n : ℕ) (kept : List ℕ) → Below 32 kept → rising kept ≡ true → kept-lines (head-of n kept) ≡ kept
 unfolding kept-lines head-of
-kept-read n kept b e = unpacked-binary 32 0 kept ∙ inside-all 32 0 kept (each kept) b e
+kept-read n kept b e = unpacked-number 32 0 (λ j. has j kept) kept (λ j. let z : 0 + j ≡ j = omega arith in rw z) ∙ inside-all 32 0 kept (each kept) b e
   where
     each : (l : List ℕ) → From 0 l
     each [] = tt
@@ -121,7 +118,7 @@ unfolding kept-lines unpacked
 none-kept n = refl
 
 pub head-unkept : (n : ℕ) → head-of n [] ≡ unkept n
-unfolding head-of binary has
+unfolding head-of number has
 head-unkept n = refl
 
 no-digits : (h : Head) → h .kept ≡ 0 → kept-lines h ≡ []

@@ -15,11 +15,10 @@ use Rattle.text.specs.declared.Kind.the-variants.{Cascade, Circuit}
 use Rattle.text.specs.declared.Refusal.the-variants.{Malformed, TooMany}
 use Rattle.text.specs.Text.{Form, lines, keep, gate, mct}
 use Rattle.text.specs.Reading.{Line, in-form, unformed, cut}
-use Rattle.cascades.specs.LineSets.{binary}
 use Rattle.text.specs.Heads.{head-of, unkept, line-below}
 use Rattle.text.specs.Judging as now
 use Rattle.text.specs.Judging.{Judged, turned-away, accepted, most, any-from, rising, Rule, rule, first, head-rules, keep-rules, or-else, rest-by, rest, judge-rest, read-all}
-use Rattle.meaning.specs.Pattern.{has}
+use Rattle.meaning.specs.Pattern.{number, has}
 
 -- the rules for a form on n lines, after so many gate lines that made this circuit
 abbrev pub Rules : Type 0
@@ -73,7 +72,7 @@ lines-as-now k n before c (unformed ∷ ls) = refl
 lines-as-now k n before c (in-form f ∷ ls) = ap (or-else (first (now.rules k (unkept n) before c f)) (before + 2)) (lines-as-now k n (before + 1) (c ++ now.gates (unkept n) f) ls)
 
 rest-as-now : (k : Kind) (n : ℕ) (ls : List Line) → rest k ls ≡ record { kept = []; gate-lines = ls } → judge-rest k n (rest k ls) ≡ judge-lines-now k n 0 [] ls
-unfolding judge-rest keep-rules any-from rising first or-else head-of binary has
+unfolding judge-rest keep-rules any-from rising first or-else head-of number has
 rest-as-now k n ls e = ap (judge-rest k n) e ∙ lines-as-now k n 0 [] ls
 
 no-rest : (k : Kind) (x : Line) (ls : List Line) → (k ≡ Cascade → (l : List ℕ) → getD (x ∷ ls) 1 unformed ≢ in-form (keep l)) → rest k ls ≡ record { kept = []; gate-lines = ls }

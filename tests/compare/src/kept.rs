@@ -490,16 +490,6 @@ impl Cases<'_, Case> {
         self.add(Kind::Limits, lines, rows, due);
     }
 
-    /// So many gates of at most two controls.
-    fn narrow(&mut self, lines: u8, count: usize) -> Vec<Row> {
-        let gate = |_| {
-            let k = self.random.below(3);
-            let signs = Signs::any(self.random);
-            Row::Gate(texts::mct(self.random, lines, k, signs))
-        };
-        (0..count).map(gate).collect()
-    }
-
     /// A keep line or none, for or against a rule or not in form, and any lines after it.
     fn random(&mut self) {
         let lines = match self.random.below(4) {

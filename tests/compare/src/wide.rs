@@ -294,16 +294,6 @@ impl Cases<'_, Case> {
         }
     }
 
-    /// So many gates of at most two controls.
-    fn narrow(&mut self, lines: u8, count: usize) -> Vec<Row> {
-        let gate = |_| {
-            let k = self.random.below(3);
-            let signs = Signs::any(self.random);
-            Row::Gate(texts::mct(self.random, lines, k, signs))
-        };
-        (0..count).map(gate).collect()
-    }
-
     /// A cascade of any lines around the limits. What was due before is what is due, but
     /// for 7 at a gate that names every line.
     fn random(&mut self) {

@@ -1,10 +1,10 @@
 -- `packed` goes down the lines, one digit more for each. Assumes nothing.
-use mathlib.Core.Path.{_≡_, refl}
+use mathlib.Core.Path.{_≡_, refl, _∙_}
 use Prim.Native.Nat.{_+_, _-_, _≤_}
 use native.Mathlib.Omega.{arith}
 use borrow.Author.Needs.{needs}
-use Rattle.cascades.specs.LineSets.{binary}
-use Rattle.spares.proofs.Sets.{digits-from, digit-1, digit-0, digits-small}
+use Rattle.meaning.specs.Pattern.{number}
+use Rattle.spares.proofs.Sets.{digits-from, digits-all, digit-1, digit-0, digits-small}
 use Rattle.spares.proofs.packed.Statement.{statement}
 use Rattle.spares.proofs.packed.Tie as tie
 
@@ -15,7 +15,7 @@ abbrev μ-loop : tie.MeasureT-loop
 μ-loop marks set₀ i₀ set i = i
 
 loop-holds : tie.Need-loop-holds Inv-loop μ-loop
-unfolding binary
+unfolding number
 loop-holds c = (omega arith, refl)
 
 sub-i : tie.Need-sub-i Inv-loop μ-loop
@@ -51,7 +51,7 @@ loop-again-2 c =
     (omega arith, omega (arith, l .inv .1, rw e at (digit-0 m (l .i - 1) (omega arith) (c .if1 .left))))
 
 returns : tie.Need-returns Inv-loop μ-loop
-returns c = let l = c .before .loop in let e : l .i ≡ 0 = omega arith in rw e at (l .inv .1)
+returns c = let l = c .before .loop in let e : l .i ≡ 0 = omega arith in rw e at (l .inv .1) ∙ digits-all (c .before .before .args .t1)
 
 pub packed-spec : {M : Type 1} → statement M
 packed-spec =
