@@ -1,6 +1,7 @@
 /* Yilgorza for C: maps a cascade of multiple-control Toffoli gates to a list of
    NCV gates, or quotes its gate count alone, reduces such a list, inverts it, joins
-   two of them, and says whether two are one circuit.
+   two of them, says whether two are one circuit, and checks the steps that are said
+   to lead from one to another.
 
    The functions are in the archive target/staticlib/libcapi.a, which
    `rt staticlib capi` proves and writes. `bin/shared-object ARCHIVE OUT` makes a
@@ -57,14 +58,14 @@ enum {
     YILGORZA_SEVERAL_NUMBER = 0, /* 0, or the number of the refusal */
     YILGORZA_SEVERAL_LINE = 1,   /* the line that is refused, counted from 1, of
                                     the text that the next place names; 0 on
-                                    success and with the numbers 1, 2, 10 and
-                                    11 */
+                                    success and with the numbers 1, 2, 10, 11
+                                    and 13 */
     YILGORZA_SEVERAL_TEXT = 2,   /* the text whose rule or line refuses, counted
                                     from 1 in the order in which the job takes
-                                    them; 0 on success and with the numbers 10
-                                    and 11 */
+                                    them; 0 on success and with the numbers 10,
+                                    11 and 13 */
     YILGORZA_SEVERAL_COUNT = 3   /* on success what compare finds, or the bytes
-                                    that join writes; else 0 */
+                                    that join writes; from slip, and else, 0 */
 };
 
 /* What compare finds, as its count: the first text is less than the second, equal
@@ -82,21 +83,25 @@ enum { YILGORZA_LESS = 0, YILGORZA_EQUAL = 1, YILGORZA_GREATER = 2 };
    of; so the list has a gate on a kept line only if some mct names it. In a circuit
    text it is malformed, and the answer of map has none.
 
+   A slip is a text of steps, and has no `(lines n)`; yilgorza_slip has its forms. By
+   itself it can get the numbers 1, 3 and 9 alone.
+
    Number 1 is tried first, then 2. Then the lines of the text are taken in order,
    `(keep ..)` among them, and each is tried against 3, 4, 5, 6, 8, 7 and 9, in this
    order; the first line that fails is returned. So a line that passes 3 to 6 and has
    16 or more controls gets 8 if the gate may borrow no line, else 7. Then comes 10. Of
    several texts each is tried against 1 to 9, against 2 with the list that is judged
-   with it, before the next one is looked at; then come 11 and the 9 of a join, and 10
-   is the last. */
+   with it, if there is one, before the next one is looked at; then comes 11, then the
+   9 of a join, or 12 and 13 of a slip, and 10 is the last. */
 enum {
     YILGORZA_SUCCESS = 0,
     YILGORZA_OVERLONG = 1,         /* the text has more than 60,000 bytes */
     YILGORZA_SHORT_LIST = 2,       /* the list has fewer than 4,096 records */
     YILGORZA_MALFORMED = 3,        /* a line of the text is not in form, or the text
-                                      is empty; a sign is in form only as a minus
-                                      sign directly before a control of an mct, and
-                                      `(keep ..)` only as line 2 of a cascade */
+                                      is empty and not a slip; a sign is in form only
+                                      as a minus sign directly before a control of an
+                                      mct, and `(keep ..)` only as line 2 of a
+                                      cascade */
     YILGORZA_NO_SUCH_LINE = 4,     /* a number is n or more: the circuit has no such
                                       line; in line 1 of the text, n is not in 1 to
                                       32 */
@@ -112,10 +117,15 @@ enum {
                                       with this line, two NOTs for each negated
                                       control counted, or the 4,097th gate of a
                                       circuit; from join also the 4,097th of both
-                                      circuits together */
+                                      circuits together, from slip the 4,097th step */
     YILGORZA_SHORT_ANSWER = 10,    /* the answer text is longer than its area; never
                                       from map with an area of length 0 */
-    YILGORZA_DIFFERENT_LINES = 11  /* the two texts of a join have not the same n */
+    YILGORZA_DIFFERENT_LINES = 11, /* the two circuits of a join, or of a slip, have
+                                      not the same n */
+    YILGORZA_NOT_ALLOWED = 12,     /* a step of a slip is not allowed on the circuit
+                                      so far */
+    YILGORZA_OTHER_END = 13        /* the slip ends at another circuit than the
+                                      second */
 };
 
 /* A record of the list is a gate as a number:
@@ -219,6 +229,49 @@ void yilgorza_compare(const uint8_t *first, size_t first_len,
                       const uint8_t *second, size_t second_len,
                       uint16_t *second_list, size_t second_list_len,
                       uint64_t *outcome);
+
+/* The job over three texts: do these steps lead from one circuit to the other? The
+   first text is a circuit text, the second a slip, and the third a circuit text, the
+   second circuit. Each circuit has a list of its own, which is judged with its text;
+   the slip has none. The outcome has the places for several texts, and its count is
+   always 0. The texts may be one area.
+
+   Each line of a slip is a step, `(pass i)` or `(merge i)`, ended by byte 10. It has
+   at most 4,096 of them, and may be empty: a text of length 0. The number i, of one to
+   four digits and without a leading zero except 0 itself, is the place, counted from
+   1, of the first of two neighbours in the circuit so far. A pass exchanges the gates
+   at i and i + 1; it is allowed if neither's target is the other's control. A merge is
+   allowed if the two have the same control and target: one gate stands in their place,
+   whose power is the sum of theirs modulo 4, or none if that is 0; two NOTs on one
+   line vanish. Neither is allowed at place 0, or at one without a right neighbour.
+
+   The slip is accepted exactly if each step is allowed on the circuit so far and the
+   last circuit is the second, gate for gate. What is accepted is linked: passes and
+   merges lead from one circuit to the other, so compare finds them equal, and they
+   have one reduced list. Accepted slips, one after the other, are accepted as one,
+   where it has at most 4,096 lines. Some list of steps leads from every circuit to its
+   reduced list, but it may be longer than a slip may be.
+
+   On success the first list holds first the circuit that the steps ended at, the
+   second list the second circuit, which has the same gates; and `not 0` stands in
+   every later record of both. How many gates there are is not returned: the text of
+   the second circuit has one line more.
+
+   Of the numbers only 1, 2, 3, 4, 5, 9, 11, 12 and 13 are given. First come those of
+   the first circuit, text 1, then those of the slip, text 2, which are 1, 3 and 9, then
+   those of the second circuit, text 3. Number 11 comes next, with text number 0, if
+   the circuits have not the same n. Then the steps are taken: number 12 has the text
+   number 2, and the line of the first one that is not allowed. The last is 13, with
+   text number and line 0.
+
+   Numbers 1 and 2, of whichever text, leave both lists unchanged. The others leave
+   `not 0` in every record of both lists, also in those of a list with fewer than
+   4,096. */
+void yilgorza_slip(const uint8_t *first, size_t first_len, uint16_t *first_list,
+                   size_t first_list_len, const uint8_t *slip, size_t slip_len,
+                   const uint8_t *second, size_t second_len,
+                   uint16_t *second_list, size_t second_list_len,
+                   uint64_t *outcome);
 
 /* Reads a record into an area of three bytes: kind, control and target. The pointer
    is not null. A NOT has control 0. The kind is 0, with control and target 0, for

@@ -2,7 +2,9 @@
    list, all from one call. Uncomputes it: inverts the circuit, and joins the two, of
    which nothing is left. Quotes the same gate written twice. Then compares a circuit
    that was ordered with two drawings of it that came later, one of them with a line
-   that the circuit does not have, and joins it with one on another number of lines. */
+   that the circuit does not have, and joins it with one on another number of lines.
+   Last it checks the steps that a customer has sent with a reduction; then steps of
+   which one is not allowed, and the first ones with another drawing as their end. */
 
 #include <inttypes.h>
 #include <stdio.h>
@@ -17,6 +19,12 @@ static const char ordered[] = "(lines 3)\n(v 1 2)\n(v 1 2)\n";
 static const char redrawn[] = "(lines 3)\n(cn 0 2)\n(cn 1 2)\n(cn 0 2)\n";
 static const char mistyped[] = "(lines 3)\n(cn 0 2)\n(cn 1 3)\n(cn 0 2)\n";
 static const char wider[] = "(lines 4)\n(cn 2 3)\n";
+
+/* The steps from the redrawn circuit to its reduced list: the last gate passes the
+   one before it, meets the first, and the two vanish. */
+static const char shorter[] = "(lines 3)\n(cn 1 2)\n";
+static const char steps[] = "(pass 2)\n(merge 1)\n";
+static const char wrong_steps[] = "(pass 2)\n(merge 2)\n";
 
 static uint16_t list[YILGORZA_LIST_RECORDS];
 static uint16_t second_list[YILGORZA_LIST_RECORDS];
@@ -45,12 +53,12 @@ static int accepted(const uint64_t *outcome) {
     return 0;
 }
 
-/* Whether the job over two texts accepted both; if not, says which it did not. */
-static int both_accepted(const char *job, const uint64_t *outcome) {
+/* Whether the job over several texts accepted them; if not, says which it did not. */
+static int all_accepted(const char *job, const uint64_t *outcome) {
     if (outcome[YILGORZA_SEVERAL_NUMBER] == YILGORZA_SUCCESS)
         return 1;
     if (outcome[YILGORZA_SEVERAL_TEXT] == 0)
-        printf("%s: the two texts are turned away: number %" PRIu64 "\n", job,
+        printf("%s: the texts are turned away: number %" PRIu64 "\n", job,
                outcome[YILGORZA_SEVERAL_NUMBER]);
     else
         printf("%s: text %" PRIu64 " is turned away: number %" PRIu64
@@ -80,7 +88,7 @@ static void join(const uint8_t *first, size_t first_len, const uint8_t *second,
     uint64_t outcome[4];
     yilgorza_join(first, first_len, list, YILGORZA_LIST_RECORDS, second, second_len,
                   joined, YILGORZA_ANSWER_BYTES, outcome);
-    if (!both_accepted("join", outcome))
+    if (!all_accepted("join", outcome))
         return;
     printf("join: %" PRIu64 " bytes\n", outcome[YILGORZA_SEVERAL_COUNT]);
     fwrite(joined, 1, outcome[YILGORZA_SEVERAL_COUNT], stdout);
@@ -107,8 +115,20 @@ static void compare(const char *first, const char *second) {
     yilgorza_compare((const uint8_t *)first, strlen(first), list,
                      YILGORZA_LIST_RECORDS, (const uint8_t *)second,
                      strlen(second), second_list, YILGORZA_LIST_RECORDS, outcome);
-    if (both_accepted("compare", outcome))
+    if (all_accepted("compare", outcome))
         printf("compare: %s\n", found[outcome[YILGORZA_SEVERAL_COUNT]]);
+}
+
+/* Checks whether a slip leads from one circuit text to another, and prints that it is
+   accepted, or which text is turned away. */
+static void slip(const char *first, const char *slip_text, const char *second) {
+    uint64_t outcome[4];
+    yilgorza_slip((const uint8_t *)first, strlen(first), list, YILGORZA_LIST_RECORDS,
+                  (const uint8_t *)slip_text, strlen(slip_text),
+                  (const uint8_t *)second, strlen(second), second_list,
+                  YILGORZA_LIST_RECORDS, outcome);
+    if (all_accepted("slip", outcome))
+        printf("slip: accepted\n");
 }
 
 int main(void) {
@@ -130,5 +150,10 @@ int main(void) {
     compare(ordered, mistyped);
     join((const uint8_t *)ordered, strlen(ordered), (const uint8_t *)wider,
          strlen(wider));
+
+    slip(redrawn, steps, shorter);
+    print_gate(list[0]);
+    slip(redrawn, wrong_steps, shorter);
+    slip(redrawn, steps, ordered);
     return 0;
 }

@@ -1,7 +1,7 @@
 /* Functions that answer what the library never does: to an empty text a circuit
-   of one gate whose number is no gate's, and compare a count of 3; to any other the
-   refusal 99, but map, reduce and invert to one of two bytes no gates with the text of
-   one, and join to such a one no text. */
+   of one gate whose number is no gate's, and compare and slip a count of 3; to any
+   other the refusal 99, but map, reduce and invert to one of two bytes no gates with
+   the text of one, and join to such a one no text. */
 
 #include <stddef.h>
 #include <stdint.h>
@@ -54,6 +54,16 @@ void yilgorza_compare(const uint8_t *first, size_t first_len,
     outcome[1] = 0;
     outcome[2] = first_len == 0 ? 0 : 1;
     outcome[3] = first_len == 0 ? 3 : 0;
+}
+
+void yilgorza_slip(const uint8_t *first, size_t first_len, uint16_t *first_list,
+                   size_t first_list_len, const uint8_t *slip, size_t slip_len,
+                   const uint8_t *second, size_t second_len,
+                   uint16_t *second_list, size_t second_list_len,
+                   uint64_t *outcome) {
+    (void)slip, (void)slip_len;
+    yilgorza_compare(first, first_len, first_list, first_list_len, second, second_len,
+                     second_list, second_list_len, outcome);
 }
 
 void yilgorza_gate(uint16_t record, uint8_t *gate) {

@@ -17,7 +17,14 @@ from typing import Dict, List
 from texts import ARCHIVE, REPOSITORY
 from yilgorza import Number, TurnedAway
 
-FILES = ["VERSION", "__init__.py", "_library.py", "libyilgorza.so", "py.typed"]
+FILES = [
+    "VERSION",
+    "__init__.py",
+    "_library.py",
+    "_slips.py",
+    "libyilgorza.so",
+    "py.typed",
+]
 
 # Prints where the package is, what it says of itself, an answer and a refusal.
 TRIED = """

@@ -1,5 +1,5 @@
 """The jobs on document 01's examples, on negated controls, on spare lines, on kept
-lines, on inverses and on joins, from the module and from the programs.
+lines, on inverses, on joins and on slips, from the module and from the programs.
 
 The environment variable YILGORZA_BIN names the folder of the programs; else it
 is target/bin of the repository.
@@ -7,6 +7,7 @@ is target/bin of the repository.
 
 import functools
 import itertools
+import random
 import re
 import subprocess
 import sys
@@ -17,7 +18,9 @@ from pathlib import Path
 
 import yilgorza
 from texts import (
+    BETWEEN,
     CIRCUIT_REFUSALS,
+    FALLING,
     FIVE,
     FIVE_MAPPED,
     INVERSES,
@@ -26,17 +29,23 @@ from texts import (
     KEPT,
     KEPT_MAPPED,
     NEGATED,
+    NINE,
     PROGRAMS,
     QUOTES,
+    REDUCTION_SLIPS,
     REDUCTIONS,
     REFUSALS,
     REPOSITORY,
     RISING,
     SIXTEEN,
+    SLIP_REFUSALS,
+    SLIPS,
     TOFFOLI,
     TOFFOLI_GATES,
     TOFFOLI_MAPPED,
     TOFFOLI_UNDONE,
+    TWICE,
+    TWICE_SLIP,
     WIDE,
     WIDE_1,
     WIDE_2,
@@ -60,6 +69,32 @@ DRAWN = [(place, text) for place, ways in enumerate(RISING) for text in ways]
 def order(first: int, second: int) -> Ordering:
     """What compare is to find of circuits at these places of RISING."""
     return Ordering((first > second) - (first < second))
+
+
+def circuit_by_chance(chance: random.Random, lines: int, gates: int) -> bytes:
+    """A circuit text of gates that are drawn by chance."""
+    kinds = ("not", "v", "cn", "vp") if lines > 1 else ("not",)
+    forms = []
+    for _ in range(gates):
+        kind = chance.choice(kinds)
+        *control, target = chance.sample(range(lines), 1 if kind == "not" else 2)
+        forms.append(f"({' '.join(map(str, [kind, *control, target]))})")
+    return typed(f"(lines {lines})", *forms)
+
+
+def passes_by_chance(chance: random.Random, text: bytes, tries: int) -> tuple:
+    """Passes that are allowed on a circuit text, drawn by chance, as a slip; and the
+    text that they end at."""
+    head, *forms = text.decode().splitlines()
+    steps = []
+    for _ in range(tries if len(forms) > 1 else 0):
+        place = chance.randrange(1, len(forms))
+        numbers = [re.findall(r"\d+", form) for form in forms[place - 1 : place + 1]]
+        (*left_control, left), (*right_control, right) = numbers
+        if left not in right_control and right not in left_control:
+            forms[place - 1 : place + 1] = forms[place], forms[place - 1]
+            steps.append(f"(pass {place})")
+    return typed(*steps), typed(head, *forms)
 
 
 def flipped(cascade: str, pattern: int) -> int:
@@ -308,9 +343,110 @@ class Module(unittest.TestCase):
                 bad, number, line = CIRCUIT_REFUSALS[1]
                 self.assertEqual(refused(yilgorza.join, first, bad), (number, line, 2))
 
+    def test_slips(self):
+        for circuit, slip, second in SLIPS:
+            with self.subTest((circuit[:40], slip[:40])):
+                self.assertIsNone(yilgorza.slip(circuit, slip, second))
+                # What is accepted is linked, and has one reduced list.
+                self.assertIs(yilgorza.compare(circuit, second), Ordering.EQUAL)
+                self.assertEqual(yilgorza.reduce(circuit), yilgorza.reduce(second))
+        for name, text in (
+            ("twice.circuit", TWICE),
+            ("twice.slip", TWICE_SLIP),
+            ("nine.circuit", NINE),
+        ):
+            example = REPOSITORY / "examples/texts" / name
+            self.assertEqual(example.read_bytes(), text)
+        # The circuits are those of document 01's mct written twice.
+        self.assertEqual(yilgorza.map(TOFFOLI + b"(mct (0 1) 2)\n").text, NINE)
+
+    def test_slips_one_after_the_other_are_a_slip(self):
+        for (circuit, slip, second), (other, more, third) in itertools.product(
+            SLIPS, repeat=2
+        ):
+            if second == other and (slip + more).count(b"\n") <= 4096:
+                yilgorza.slip(circuit, slip + more, third)
+        back = typed("(pass 1)", "(pass 2)", "(pass 3)", "(pass 4)")
+        yilgorza.slip(TWICE, TWICE_SLIP + back, BETWEEN)
+
+    def test_refusals_of_slips(self):
+        def refused(*texts: bytes) -> tuple:
+            with self.assertRaises(TurnedAway) as caught:
+                yilgorza.slip(*texts)
+            refusal = caught.exception
+            return refusal.number, refusal.line, refusal.text
+
+        for circuit, slip, second, *told in SLIP_REFUSALS:
+            with self.subTest((circuit[:40], slip[:40])):
+                self.assertEqual(refused(circuit, slip, second), tuple(told))
+        # The texts are judged in their order, each whole before the next one is looked
+        # at; all of them before the circuits are compared and a step is taken.
+        for text, number, line in CIRCUIT_REFUSALS:
+            with self.subTest(text[:40]):
+                self.assertEqual(refused(text, b"?", b""), (number, line, 1))
+                self.assertEqual(refused(GOOD, b"?", text), (3, 1, 2))
+                for slip in (b"", b"(pass 0)\n", b"(merge 1)\n"):
+                    self.assertEqual(refused(GOOD, slip, text), (number, line, 3))
+                    self.assertEqual(refused(NINE, slip, text), (number, line, 3))
+
+    def test_the_slip_of_a_reduction(self):
+        for circuit, slip, reduced in REDUCTION_SLIPS:
+            with self.subTest(circuit[:40]):
+                self.assertEqual(yilgorza.reduction_slip(circuit), slip)
+                self.assertEqual(yilgorza.reduce(circuit).text, reduced)
+        # A list that is reduced already needs no step.
+        for text, _ in QUOTES:
+            mapped = yilgorza.map(text).text
+            self.assertEqual(yilgorza.reduction_slip(mapped), b"")
+        for _, text in DRAWN:
+            slip = yilgorza.reduction_slip(text)
+            yilgorza.slip(text, slip, yilgorza.reduce(text).text)
+
+    def test_the_slips_of_reductions_by_chance(self):
+        # On few lines most gates merge, on many most pass.
+        for lines, gates, seed in itertools.product(
+            (1, 2, 3, 4, 5, 8, 16, 32), (1, 2, 5, 10, 20, 40, 60), range(12)
+        ):
+            chance = random.Random(f"{lines} {gates} {seed}")
+            text = circuit_by_chance(chance, lines, gates)
+            reduced = yilgorza.reduce(text)
+            slip = yilgorza.reduction_slip(text)
+            yilgorza.slip(text, slip, reduced.text)
+            # A merge leaves one gate or two less.
+            merges, less = slip.count(b"m"), gates - len(reduced.gates)
+            self.assertTrue(merges <= less <= 2 * merges, text)
+            # From there on by passes, and back; and reduced again from where they end.
+            passes, second = passes_by_chance(chance, reduced.text, 50)
+            back = b"".join(passes.splitlines(True)[::-1])
+            yilgorza.slip(text, slip + passes, second)
+            yilgorza.slip(second, back, reduced.text)
+            yilgorza.slip(second, yilgorza.reduction_slip(second), reduced.text)
+            self.assertNotIn(b"m", yilgorza.reduction_slip(second))
+
+    def test_the_longest_slip_of_a_reduction(self):
+        # A pass for each two of 91 gates are 4,095 steps, and one is left for a merge.
+        first, second = ([form.replace("cn", "v")] * 2 for form in FALLING[:2])
+        for forms, count in (
+            (FALLING[:91], 4095),
+            (first + FALLING[1:91], 4096),
+        ):
+            text = typed("(lines 32)", *forms)
+            slip = yilgorza.reduction_slip(text)
+            self.assertEqual(slip.count(b"\n"), count)
+            reduced = yilgorza.reduce(text).text
+            self.assertEqual(reduced, typed("(lines 32)", *FALLING[90::-1]))
+            yilgorza.slip(text, slip, reduced)
+        for forms in (first + second + FALLING[2:91], FALLING[:92], FALLING):
+            with self.assertRaisesRegex(ValueError, "more than 4,096 lines"):
+                yilgorza.reduction_slip(typed("(lines 32)", *forms))
+        # A circuit of 4,096 gates that stay in their places.
+        stay = typed("(lines 32)", *["(cn 30 31)", "(cn 31 30)"] * 2048)
+        self.assertEqual(yilgorza.reduction_slip(stay), b"")
+        yilgorza.slip(stay, b"", stay)
+
     def test_refusals_of_a_circuit(self):
         for text, number, line in CIRCUIT_REFUSALS:
-            for job in (yilgorza.reduce, yilgorza.invert):
+            for job in (yilgorza.reduce, yilgorza.invert, yilgorza.reduction_slip):
                 with self.subTest(text[:40], job=job.__name__):
                     with self.assertRaises(TurnedAway) as caught:
                         job(text)
@@ -390,6 +526,13 @@ class Module(unittest.TestCase):
                 self.assertEqual(yilgorza.invert(text).text, inverse)
             for text, other, joined in JOINS:
                 self.assertEqual(yilgorza.join(text, other).text, joined)
+            yilgorza.slip(TWICE, TWICE_SLIP, NINE)
+            for *texts, number, line, place in SLIP_REFUSALS[-12:]:
+                with self.assertRaises(TurnedAway) as caught:
+                    yilgorza.slip(*texts)
+                refusal = caught.exception
+                told = refusal.number, refusal.line, refusal.text
+                self.assertEqual(told, (number, line, place))
 
         with ThreadPoolExecutor(8) as pool:
             self.assertEqual(list(pool.map(answers, range(64))), [None] * 64)
@@ -403,10 +546,11 @@ class Programs(unittest.TestCase):
         self.assertEqual(run.returncode, 0)
         return run.stdout
 
-    def written_of_two(self, program: str, first: bytes, second: bytes) -> bytes:
+    def written_of(self, program: str, *texts: bytes) -> bytes:
+        """What a program over several texts writes."""
         with tempfile.TemporaryDirectory() as folder:
-            names = [Path(folder) / "first", Path(folder) / "second"]
-            for name, text in zip(names, (first, second)):
+            names = [Path(folder) / str(place) for place in range(len(texts))]
+            for name, text in zip(names, texts):
                 name.write_bytes(text)
             run = subprocess.run([PROGRAMS / program, *names], stdout=subprocess.PIPE)
         self.assertEqual(run.returncode, 0)
@@ -415,19 +559,35 @@ class Programs(unittest.TestCase):
     def test_compare(self):
         for (first, text), (second, other) in itertools.product(DRAWN, DRAWN):
             form = f"({order(first, second).name.lower()})"
-            found = self.written_of_two("compare", text, other)
+            found = self.written_of("compare", text, other)
             self.assertEqual(found, typed(form), (text, other))
 
     def test_join(self):
         for first, second, joined in JOINS:
             with self.subTest((first[:40], second[:40])):
-                self.assertEqual(self.written_of_two("join", first, second), joined)
+                self.assertEqual(self.written_of("join", first, second), joined)
         for first, second, number, line, text in JOIN_REFUSALS:
             with self.subTest((first[:40], second[:40])):
                 refusal = TurnedAway(number, line, text)
                 self.assertEqual(
-                    self.written_of_two("join", first, second), typed(refusal.form)
+                    self.written_of("join", first, second), typed(refusal.form)
                 )
+
+    def test_slip(self):
+        for texts in SLIPS:
+            with self.subTest((texts[0][:40], texts[1][:40])):
+                self.assertEqual(self.written_of("slip", *texts), typed("(accepted)"))
+        for *texts, number, line, place in SLIP_REFUSALS:
+            with self.subTest((texts[0][:40], texts[1][:40])):
+                form = TurnedAway(number, line, place).form
+                self.assertEqual(self.written_of("slip", *texts), typed(form))
+        for text, number, line in CIRCUIT_REFUSALS:
+            first, third = TurnedAway(number, line, 1), TurnedAway(number, line, 3)
+            with self.subTest(text[:40]):
+                found = self.written_of("slip", text, b"?", b"")
+                self.assertEqual(found, typed(first.form))
+                found = self.written_of("slip", NINE, b"(pass 0)\n", text)
+                self.assertEqual(found, typed(third.form))
 
     def test_invert(self):
         for text, inverse in INVERSES:
@@ -445,7 +605,7 @@ class Programs(unittest.TestCase):
                         ((text, b""), first),
                     ):
                         self.assertEqual(
-                            self.written_of_two(program, *texts), typed(refusal.form)
+                            self.written_of(program, *texts), typed(refusal.form)
                         )
 
     def test_map_and_quote(self):
@@ -551,8 +711,9 @@ class Examples(unittest.TestCase):
         )
 
     def test_sorted_circuits(self):
-        ordered, redrawn, toffoli = names = [
-            f"{name}.circuit" for name in ("ordered", "redrawn", "toffoli")
+        nine, ordered, redrawn, toffoli, twice = names = [
+            f"{name}.circuit"
+            for name in ("nine", "ordered", "redrawn", "toffoli", "twice")
         ]
         # The rows that docs/USING.md shows for the command.
         page = (REPOSITORY / "docs/USING.md").read_text("utf-8")
@@ -567,12 +728,14 @@ class Examples(unittest.TestCase):
             rows,
             typed(
                 "   5 gates  examples/texts/toffoli.circuit",
+                "   9 gates  examples/texts/nine.circuit examples/texts/twice.circuit",
                 "   1 gates  examples/texts/ordered.circuit "
                 "examples/texts/redrawn.circuit",
             ),
         )
         # Whatever their order, and with a text among them that is no circuit.
-        run = self.ran("sort.py", toffoli, ordered, "toffoli.cascade", redrawn)
+        texts = toffoli, nine, ordered, "toffoli.cascade", redrawn, twice
+        run = self.ran("sort.py", *texts)
         refusal = TurnedAway(Number.MALFORMED, 2)
         self.assertEqual((run.returncode, run.stdout), (1, rows))
         self.assertEqual(

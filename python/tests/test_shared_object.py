@@ -12,7 +12,16 @@ from texts import ARCHIVE, REPOSITORY
 STUB = Path(__file__).resolve().with_name("stub.c")
 
 # The jobs, and how many texts each takes.
-JOBS = {"map": 1, "reduce": 1, "quote": 1, "compare": 2, "invert": 1, "join": 2}
+JOBS = {
+    "map": 1,
+    "reduce": 1,
+    "quote": 1,
+    "compare": 2,
+    "invert": 1,
+    "join": 2,
+    "slip": 3,
+    "reduction_slip": 1,
+}
 
 
 class Named(unittest.TestCase):
@@ -78,6 +87,8 @@ class Named(unittest.TestCase):
                 nonsense = "record 65535 is no gate"
                 if job == "compare":
                     nonsense = "there is no order 3"
+                elif job == "slip":
+                    nonsense = "an accepted slip has no count 3"
                 self.assertEqual(
                     self.error(self.made, b"", job),
                     f"InternalError yilgorza: {nonsense}\n",
@@ -86,7 +97,7 @@ class Named(unittest.TestCase):
                     self.error(self.made, b"x", job),
                     "InternalError yilgorza: there is no refusal 99\n",
                 )
-        for job in ("map", "reduce", "invert"):
+        for job in ("map", "reduce", "invert", "reduction_slip"):
             self.assertEqual(
                 self.error(self.made, b"xx", job),
                 "InternalError yilgorza: the answer has not 0 gates\n",

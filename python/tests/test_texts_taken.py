@@ -26,15 +26,31 @@ def join_second(text: object) -> Circuit:
     return yilgorza.join(CIRCUIT, text)
 
 
+def slip_first(text: object) -> None:
+    yilgorza.slip(text, b"", CIRCUIT)
+
+
+def slip_second(text: object) -> None:
+    yilgorza.slip(CIRCUIT, b"", text)
+
+
+def slip_steps(text: object) -> None:
+    yilgorza.slip(CIRCUIT, text, typed("(lines 2)", "(cn 0 1)"))
+
+
+# What takes a cascade or a circuit.
 JOBS = (
     yilgorza.map,
     yilgorza.reduce,
     yilgorza.quote,
     yilgorza.invert,
+    yilgorza.reduction_slip,
     compare_first,
     compare_second,
     join_first,
     join_second,
+    slip_first,
+    slip_second,
 )
 
 
@@ -78,6 +94,11 @@ class Taken(unittest.TestCase):
                 self.assertEqual(yilgorza.join(text, text).text, typed("(lines 2)"))
                 for joined in (join_first(text), join_second(text)):
                     self.assertEqual(joined.text, typed("(lines 2)"))
+                yilgorza.slip(text, "", text)
+                self.assertEqual(yilgorza.reduction_slip(text), b"(merge 1)\n")
+        for text in (b"(merge 1)\n", "(merge 1)\n", bytearray(b"(merge 1)\n")):
+            with self.subTest(type(text).__name__):
+                slip_steps(text)
 
     def test_a_given_text_is_left_as_it_is(self):
         text = bytearray(TOFFOLI)
@@ -146,6 +167,17 @@ class Taken(unittest.TestCase):
                 self.assertEqual(caught.exception.form, "(turned-away 3 2)", hex(code))
         self.assertEqual(yilgorza.quote("(lines 32)\n(keep 0 10)\n").count, 0)
 
+    def test_every_character_but_a_digit_in_a_step(self):
+        # Digits of other alphabets among them, and a minus sign.
+        for code in [*range(0x80), *range(0x80, 0x110000, 977), 0x661, 0xFF11]:
+            if chr(code) not in "123456789":
+                for step in (f"(merge {chr(code)}1)\n", f"(pass {chr(code)}1)\n"):
+                    with self.assertRaises(TurnedAway) as caught:
+                        slip_steps(step)
+                    form = caught.exception.form
+                    self.assertEqual(form, "(turned-away 3 1 2)", hex(code))
+        slip_steps("(merge 1)\n")
+
     def test_a_length_is_counted_in_bytes(self):
         for text, number in (
             ("x" * 60000, Number.MALFORMED),
@@ -165,7 +197,7 @@ class Taken(unittest.TestCase):
 
     def test_other_objects(self):
         for text in (None, 3, 3.0, True, ["(lines 3)"], (40, 41), {}, object(), print):
-            for job in JOBS:
+            for job in (*JOBS, slip_steps):
                 with self.subTest(repr(text), job=job.__name__):
                     with self.assertRaisesRegex(
                         TypeError,

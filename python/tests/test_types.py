@@ -21,6 +21,7 @@ from texts import (
     QUOTES,
     REFUSALS,
     REPOSITORY,
+    SLIP_REFUSALS,
     TOFFOLI,
     TOFFOLI_MAPPED,
 )
@@ -33,7 +34,7 @@ class Refusals(unittest.TestCase):
         rest = page.partition("| r | in a customer's words |\n")[2]
         table = rest.partition("\n\n")[0]
         rows = re.findall(r"^\| (\d+) \| (.+) \|$", table, re.MULTILINE)
-        self.assertEqual(len(rows), 11)
+        self.assertEqual(len(rows), 13)
         self.assertEqual(
             [(number.value, number.words) for number in Number],
             [(int(number), words) for number, words in rows],
@@ -76,6 +77,9 @@ class Refusals(unittest.TestCase):
         refusal = TurnedAway(Number.DIFFERENT_LINES, 0, 0)
         self.assertEqual(refusal.form, "(turned-away 11 0 0)")
         self.assertEqual(str(refusal), f"refusal 11: {Number(11).words}")
+        refusal = TurnedAway(Number.OTHER_END, 0, 0)
+        self.assertEqual(refusal.form, "(turned-away 13 0 0)")
+        self.assertEqual(str(refusal), f"refusal 13: {Number(13).words}")
 
     def test_what_a_job_says(self):
         with self.assertRaises(TurnedAway) as caught:
@@ -97,11 +101,36 @@ class Refusals(unittest.TestCase):
             str(caught.exception),
             "refusal 11: the two circuits do not have the same number of lines",
         )
+        with self.assertRaises(TurnedAway) as caught:
+            yilgorza.slip("(lines 3)\n", "(pass 1)\n", "(lines 3)\n")
+        self.assertEqual(
+            str(caught.exception),
+            "refusal 12 at line 1 of the second text: this step of the slip is not "
+            "allowed: the two gates at its place do not pass or merge, or there are no "
+            "two gates there",
+        )
+        with self.assertRaises(TurnedAway) as caught:
+            yilgorza.slip("(lines 3)\n", "", "(lines 3)\n(not 0)\n")
+        self.assertEqual(
+            str(caught.exception),
+            "refusal 13: the steps of the slip end at another circuit than the second",
+        )
+        with self.assertRaises(TurnedAway) as caught:
+            yilgorza.slip("(lines 3)\n", "", "(lines 3)\n(cn 2 2)\n")
+        self.assertEqual(
+            str(caught.exception),
+            "refusal 5 at line 2 of the third text: "
+            "a gate is controlled by its own target",
+        )
 
     def test_every_number_is_met(self):
         met = {number for _, number, _ in REFUSALS}
         met |= {number for *_, number, _, _ in JOIN_REFUSALS}
+        slips = {number for *_, number, _, _ in SLIP_REFUSALS}
+        met |= slips
         self.assertEqual(set(Number) - met, {Number.SHORT_LIST, Number.SHORT_ANSWER})
+        # Besides those of its circuits, a slip gets these.
+        self.assertEqual({number.value for number in slips}, {1, 3, 9, 11, 12, 13})
         # Of a circuit's lines only these rules can fail.
         met = {number for _, number, _ in CIRCUIT_REFUSALS}
         self.assertEqual({number.value for number in met}, {1, 3, 4, 5, 9})
@@ -186,6 +215,9 @@ class Pickled(unittest.TestCase):
             self.same(future.exception(timeout=60), 4, 2, 2)
             future = pool.submit(yilgorza.join, "(lines 1)\n", "(lines 2)\n")
             self.same(future.exception(timeout=60), 11, 0, 0)
+            texts = "(lines 1)\n", "(pass 1)\n", "(lines 1)\n"
+            future = pool.submit(yilgorza.slip, *texts)
+            self.same(future.exception(timeout=60), 12, 1, 2)
             # The pool lives on.
             quotes = pool.map(yilgorza.quote, [text for text, _ in QUOTES], timeout=60)
             self.assertEqual(
@@ -207,8 +239,10 @@ class Names(unittest.TestCase):
             self.assertIs(names[name], getattr(yilgorza, name))
 
     def test_jobs_by_the_name_of_the_module(self):
-        for name in ("map", "reduce", "quote", "compare", "invert", "join"):
+        jobs = "map", "reduce", "quote", "compare", "invert", "join", "slip"
+        for name in (*jobs, "reduction_slip"):
             self.assertEqual(getattr(yilgorza, name).__module__, "yilgorza")
+            self.assertNotIn(name, yilgorza.__all__)
 
     def test_version(self):
         version = (REPOSITORY / "VERSION").read_text("ascii").strip()
@@ -234,6 +268,12 @@ class Names(unittest.TestCase):
             hints = typing.get_type_hints(job)
             self.assertEqual(set(hints), {"first", "second", "return"})
             self.assertIs(hints["return"], given)
+        hints = typing.get_type_hints(yilgorza.slip)
+        self.assertEqual(set(hints), {"circuit", "slip", "second", "return"})
+        self.assertIs(hints["return"], type(None))
+        hints = typing.get_type_hints(yilgorza.reduction_slip)
+        self.assertEqual(set(hints), {"circuit", "return"})
+        self.assertIs(hints["return"], bytes)
         self.assertEqual(
             typing.get_type_hints(yilgorza.Gate),
             {"kind": Kind, "control": typing.Optional[int], "target": int},
@@ -245,7 +285,8 @@ class Names(unittest.TestCase):
 
     def test_all_functions_are_annotated(self):
         paths = sorted((REPOSITORY / "python/src/yilgorza").glob("*.py"))
-        self.assertEqual([path.name for path in paths], ["__init__.py", "_library.py"])
+        names = ["__init__.py", "_library.py", "_slips.py"]
+        self.assertEqual([path.name for path in paths], names)
         for path in paths:
             # The grammar of the oldest version that the package is for.
             tree = ast.parse(path.read_text("utf-8"), feature_version=(3, 9))
@@ -274,11 +315,11 @@ class Names(unittest.TestCase):
 
 class Documentation(unittest.TestCase):
     def test_examples_of_the_module(self):
-        self.assertEqual(doctest.testmod(yilgorza), (0, 6))
+        self.assertEqual(doctest.testmod(yilgorza), (0, 9))
 
     def test_examples_of_the_page(self):
         page = str(REPOSITORY / "python/README.md")
-        self.assertEqual(doctest.testfile(page, module_relative=False), (0, 33))
+        self.assertEqual(doctest.testfile(page, module_relative=False), (0, 42))
 
 
 if __name__ == "__main__":

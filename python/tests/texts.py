@@ -285,6 +285,145 @@ JOINS = [
     ],
 ]
 
+# The Toffoli gate written twice, as it is expanded; a slip; and its reduced list, which
+# document 01 says has 9 gates. The last gate passes back to the fifth, the two merge to
+# cn 0 2, and this passes to the front.
+TWICE = typed(
+    "(lines 3)",
+    *["(v 1 2)", "(cn 0 1)", "(vp 1 2)", "(cn 0 1)", "(v 0 2)"] * 2,
+)
+TWICE_SLIP = typed(
+    "(pass 9)",
+    "(pass 8)",
+    "(pass 7)",
+    "(pass 6)",
+    "(merge 5)",
+    "(pass 4)",
+    "(pass 3)",
+    "(pass 2)",
+    "(pass 1)",
+)
+# What the slip leads to up to its merge, and to its end.
+BETWEEN = typed(
+    "(lines 3)",
+    "(v 1 2)",
+    "(cn 0 1)",
+    "(vp 1 2)",
+    "(cn 0 1)",
+    "(cn 0 2)",
+    "(v 1 2)",
+    "(cn 0 1)",
+    "(vp 1 2)",
+    "(cn 0 1)",
+)
+NINE = typed(
+    "(lines 3)",
+    "(cn 0 2)",
+    *["(v 1 2)", "(cn 0 1)", "(vp 1 2)", "(cn 0 1)"] * 2,
+)
+
+# Circuits, the slips that lead from each to its reduced list, by way of partners and
+# then of dictionary order, and the reduced lists, worked out by hand.
+REDUCTION_SLIPS = [
+    *[
+        (text, typed(*steps), reduced)
+        for (text, reduced), steps in zip(
+            REDUCTIONS,
+            (
+                ["(merge 1)"],
+                ["(merge 1)"],
+                ["(merge 1)"],
+                ["(pass 2)", "(merge 1)"],
+                [],
+                ["(pass 1)"],
+                [],
+            ),
+        )
+    ],
+    (typed("(lines 32)"), typed(), typed("(lines 32)")),
+    (TOFFOLI_MAPPED, typed(), TOFFOLI_MAPPED),
+    # The Toffoli gate as it is expanded: the last gate comes to the front.
+    (
+        typed("(lines 3)", "(v 1 2)", "(cn 0 1)", "(vp 1 2)", "(cn 0 1)", "(v 0 2)"),
+        typed("(pass 4)", "(pass 3)", "(pass 2)", "(pass 1)"),
+        TOFFOLI_MAPPED,
+    ),
+    (TWICE, TWICE_SLIP, NINE),
+    # Two that vanish bring the next two together.
+    (
+        typed("(lines 2)", "(v 0 1)", "(not 0)", "(not 0)", "(v 0 1)"),
+        typed("(merge 2)", "(merge 1)"),
+        typed("(lines 2)", "(cn 0 1)"),
+    ),
+    # Four v are none, and three are vp.
+    (
+        typed("(lines 2)", *["(v 0 1)"] * 7),
+        typed(*["(merge 1)"] * 5),
+        typed("(lines 2)", "(vp 0 1)"),
+    ),
+    (
+        typed("(lines 3)", "(not 2)", "(not 1)", "(not 0)"),
+        typed("(pass 2)", "(pass 1)", "(pass 2)"),
+        typed("(lines 3)", "(not 0)", "(not 1)", "(not 2)"),
+    ),
+    (
+        typed("(lines 1)", *["(not 0)"] * 4096),
+        typed(*["(merge 1)"] * 2048),
+        typed("(lines 1)"),
+    ),
+]
+
+# Gates that all pass one another, in falling order: to bring them into rising order
+# takes a pass for each two of them, so 4,095 for 91, and for 92 more than a slip may
+# have.
+FALLING = [
+    f"(cn {control} {target})"
+    for target in range(31, 15, -1)
+    for control in range(15, -1, -1)
+]
+
+# Circuits, slips and second circuits that are accepted.
+SLIPS = [
+    *REDUCTION_SLIPS,
+    (TWICE, typed(), TWICE),
+    (TWICE, b"".join(TWICE_SLIP.splitlines(True)[:5]), BETWEEN),
+    (BETWEEN, b"".join(TWICE_SLIP.splitlines(True)[5:]), NINE),
+    # Passes lead back.
+    (NINE, typed("(pass 1)", "(pass 2)", "(pass 3)", "(pass 4)"), BETWEEN),
+    (
+        typed("(lines 3)", "(cn 0 2)", "(cn 1 2)", "(cn 0 2)"),
+        typed("(pass 1)", "(merge 2)"),
+        typed("(lines 3)", "(cn 1 2)"),
+    ),
+    # Gates that are equal pass too.
+    (
+        typed("(lines 2)", "(v 0 1)", "(v 0 1)", "(vp 0 1)"),
+        typed("(pass 1)", "(merge 2)"),
+        typed("(lines 2)", "(v 0 1)"),
+    ),
+    (
+        typed("(lines 2)", "(vp 0 1)", "(vp 0 1)"),
+        typed("(merge 1)"),
+        typed("(lines 2)", "(cn 0 1)"),
+    ),
+    (
+        typed("(lines 2)", "(cn 1 0)", "(vp 1 0)"),
+        typed("(merge 1)"),
+        typed("(lines 2)", "(v 1 0)"),
+    ),
+    # As many steps as may be, at the first place and at the last.
+    (
+        typed("(lines 3)", "(cn 0 2)", "(cn 1 2)"),
+        typed(*["(pass 1)"] * 4096),
+        typed("(lines 3)", "(cn 0 2)", "(cn 1 2)"),
+    ),
+    (
+        typed("(lines 1)", *["(not 0)"] * 4096),
+        typed(*["(pass 4095)"] * 4095, "(merge 4095)"),
+        typed("(lines 1)", *["(not 0)"] * 4094),
+    ),
+]
+
 # Circuits in rising order, each in all the ways in which it is drawn here: by the
 # number of lines, then by the reduced lists, which document 01 gives or which are the
 # only ones with so few gates.
@@ -368,6 +507,103 @@ JOIN_REFUSALS = [
         2,
         2,
     ),
+]
+
+# Circuits, slips and second circuits that are turned away though each circuit passes
+# by itself, with number, line and text: a slip's own numbers 1, 3 and 9, then 11, then
+# 12, then 13.
+_APART = typed("(lines 3)", "(cn 0 1)", "(cn 1 2)", "(cn 0 1)")
+_BESIDE = typed("(lines 3)", "(cn 0 2)", "(cn 1 2)")
+SLIP_REFUSALS = [
+    (_BESIDE, b"(" * 60001, _BESIDE, Number.OVERLONG, 0, 2),
+    *[
+        (_BESIDE, typed("(pass 0)", form), _BESIDE, Number.MALFORMED, 2, 2)
+        for form in (
+            "(pass 01)",
+            "(pass 00)",
+            "(pass 10000)",
+            "(pass -1)",
+            "(pass +1)",
+            "(pass)",
+            "(pass )",
+            "(pass 1 )",
+            "(pass  1)",
+            "( pass 1)",
+            "(pass 1) ",
+            " (pass 1)",
+            "(pass 1 2)",
+            "(pass (1))",
+            "(Pass 1)",
+            "(merge 01)",
+            "(merge)",
+            "(merge 1",
+            "merge 1",
+            "(merges 1)",
+            "(lines 3)",
+            "(cn 0 2)",
+            "",
+        )
+    ],
+    (_BESIDE, b"(pass 1)", _BESIDE, Number.MALFORMED, 1, 2),
+    (_BESIDE, typed(*["(pass 1)"] * 4097), _BESIDE, Number.TOO_MANY, 4097, 2),
+    # That a line is not in form is told before that it is one too many.
+    (_BESIDE, typed(*["(pass 1)"] * 4096, "?"), _BESIDE, Number.MALFORMED, 4097, 2),
+    # Before any step.
+    (_BESIDE, typed(), typed("(lines 4)"), Number.DIFFERENT_LINES, 0, 0),
+    (_BESIDE, typed("(pass 0)"), typed("(lines 2)"), Number.DIFFERENT_LINES, 0, 0),
+    # Place 0, places without a right neighbour, and gates that do not pass or merge.
+    *[
+        (_APART, typed(step), NINE, Number.NOT_ALLOWED, 1, 2)
+        for step in (
+            "(pass 0)",
+            "(merge 0)",
+            "(pass 1)",
+            "(merge 1)",
+            "(pass 2)",
+            "(merge 2)",
+            "(pass 3)",
+            "(merge 3)",
+            "(pass 4)",
+            "(merge 9999)",
+        )
+    ],
+    (_BESIDE, typed("(pass 1)", "(merge 1)"), _BESIDE, Number.NOT_ALLOWED, 2, 2),
+    (
+        _BESIDE,
+        typed("(pass 1)", "(pass 2)", "(pass 0)"),
+        _APART,
+        Number.NOT_ALLOWED,
+        2,
+        2,
+    ),
+    (
+        typed("(lines 2)", "(v 0 1)", "(v 0 1)"),
+        typed("(merge 1)", "(merge 1)"),
+        typed("(lines 2)"),
+        Number.NOT_ALLOWED,
+        2,
+        2,
+    ),
+    (
+        typed("(lines 2)", "(not 1)", "(cn 0 1)"),
+        typed("(merge 1)"),
+        typed("(lines 2)"),
+        Number.NOT_ALLOWED,
+        1,
+        2,
+    ),
+    # The last circuit is linked to the second, but not the same gate for gate; or it
+    # is a gate shorter, or longer.
+    (_BESIDE, typed("(pass 1)"), _BESIDE, Number.OTHER_END, 0, 0),
+    (TWICE, typed(), NINE, Number.OTHER_END, 0, 0),
+    (TWICE, TWICE_SLIP[:-9], NINE, Number.OTHER_END, 0, 0),
+    *[
+        (typed(*first), typed(), typed(*second), Number.OTHER_END, 0, 0)
+        for first, second in (
+            (["(lines 1)"], ["(lines 1)", "(not 0)"]),
+            (["(lines 1)", "(not 0)"], ["(lines 1)"]),
+        )
+    ],
 ]
 
 # Cascades that are turned away, with number and line: every number but 2 and 10,

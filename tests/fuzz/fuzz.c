@@ -1,5 +1,5 @@
 /* The harness of the fuzzer (libFuzzer with AddressSanitizer) on the static
-   library: each input is given to the jobs, over one text and over two, on lent
+   library: each input is given to the jobs, over one text, two and three, on lent
    areas of sizes that the input chooses, and what holds of every answer is
    checked. Map is also called with an empty answer area, and has to count the same
    gates and give the same list. What reduce gives for either of two texts says all
@@ -9,7 +9,9 @@
    them, and with a gate without controls for each NOT that they stand for. What rules 4
    to 8 say of each line of a cascade is worked out here too. A cascade with a keep line is
    also given without it; what map gives for it touches no kept line that no mct names, and
-   as a circuit it is malformed.
+   as a circuit it is malformed. A slip is read and its steps are taken here too, which with
+   what reduce says of the two circuits is all that slip has to give; where all steps are
+   allowed it is also given with the circuit that they end at, and is accepted.
 
    Memory. The archive is plain machine code, in which AddressSanitizer checks
    nothing but the memory functions of the C library. So the areas stand
@@ -30,17 +32,17 @@
      addresses of the blocks come from a disassembly (see blocks.awk), in the
      file that the environment variable FUZZ_BLOCKS names.
    - the outcomes: number and line, and gates or count (its number of binary
-     digits), of each kind of call, for each text of compare and join.
+     digits), of each kind of call, for each text of compare, join and slip.
    The harness itself is compiled without coverage.
 
-   An input is four bytes of choices, a text and perhaps a second text. The first
-   `%`, which no text in form has, stands between them; without one the second
-   text is empty. The jobs over one text get the first.
+   An input is four bytes of choices, a text and perhaps a second text and a slip. The
+   first two `%`, which no text in form has, stand between them; what is not there is
+   empty. The jobs over one text get the first.
    byte 0: the length of the list (low four bits), which is also that of join, and of
-   the second text's list (high four bits); byte 1 and 2: the length of the answer area;
-   byte 3: at which end of the areas the page stands (bit 0), and whether the last line
-   of the text (bits 1 to 3) and of the second text (bits 4 to 6) is repeated up to a
-   limit.
+   the second text's list (high four bits); byte 1 (bits 0 and 1) and 2: the length of the
+   answer area; byte 3: at which end of the areas the page stands (bit 0), and whether the
+   last line of the text (bits 1 to 3) and of the second text (bits 4 to 6) is repeated up
+   to a limit; and byte 1 whether that of the slip is (bits 4 to 6).
    With `0000` it is lists of 4,096 records, an ample answer area and the texts as
    they stand. */
 
@@ -57,11 +59,12 @@
 
 enum { LONGEST_TEXT = 60000, SHORTEST_LIST = 4096, AMPLE = 50000, BESIDE = 64 };
 /* The kinds of call: the jobs, and map with an empty answer area apart. Each refusal of
-   a second text is counted under the number that follows that of its job. */
-enum call { MAP, REDUCE, MAP_EMPTY_AREA, COMPARE, INVERT = COMPARE + 2, JOIN, CALLS = JOIN + 2 };
+   a second text is counted under the number that follows that of its job, of a third
+   under the next. */
+enum call { MAP, REDUCE, MAP_EMPTY_AREA, COMPARE, INVERT = COMPARE + 2, JOIN, SLIP = JOIN + 2, CALLS = SLIP + 3 };
 static const char *const call_names[] = {
     [MAP] = "map", [REDUCE] = "reduce", [MAP_EMPTY_AREA] = "map with an empty area",
-    [COMPARE] = "compare", [INVERT] = "invert", [JOIN] = "join",
+    [COMPARE] = "compare", [INVERT] = "invert", [JOIN] = "join", [SLIP] = "slip",
 };
 
 static void fail(enum call call, const char *what)
@@ -80,10 +83,13 @@ static unsigned long kept_cascades, kept_no_spare, keeps_refused;
 /* How many circuits with gates were inverted, how many pairs with gates in both were
    joined, and how many joins were refused by 11 and by a 9 of their own. */
 static unsigned long inverted, joined, joins_of_other_lines, joins_over;
+/* How many slips with steps were accepted, and how many were refused by 12, by 13, by 11 and
+   by a 3 or 9 of their own. */
+static unsigned long slips_accepted, slips_not_allowed, slips_elsewhere, slips_of_other_lines, slips_not_read;
 
 /* ---- Guidance ---- */
 
-enum { MOST_BLOCKS = 1 << 16, OUTCOMES = 1 << 12 };
+enum { MOST_BLOCKS = 1 << 16, OUTCOMES = 1 << 13 };
 
 #ifndef REPLAY
 __attribute__((section("__libfuzzer_extra_counters")))
@@ -97,7 +103,7 @@ static void count_outcome(enum call call, uint64_t number, uint64_t line, uint64
     unsigned digits = count ? 64 - (unsigned)__builtin_clzll(count) : 0;
     unsigned feature = number ? 64 + (unsigned)number * 25 + short_line : digits;
     _Static_assert(CALLS * 512 <= OUTCOMES, "room for all outcomes");
-    counters[MOST_BLOCKS + (call + (text == 2)) * 512 + feature % 512] = 1;
+    counters[MOST_BLOCKS + (call + (text > 1 ? text - 1 : 0)) * 512 + feature % 512] = 1;
 }
 
 #ifndef REPLAY
@@ -136,6 +142,8 @@ static void tell_blocks(void)
             kept_cascades, kept_no_spare, keeps_refused);
     fprintf(stderr, "fuzz: %lu circuits inverted, %lu pairs joined, %lu refused by 11, %lu by 9 together\n", inverted,
             joined, joins_of_other_lines, joins_over);
+    fprintf(stderr, "fuzz: %lu slips with steps accepted, %lu refused by 12, %lu by 13, %lu by 11, %lu by their lines\n",
+            slips_accepted, slips_not_allowed, slips_elsewhere, slips_of_other_lines, slips_not_read);
 }
 
 int LLVMFuzzerInitialize(int *argc, char ***argv)
@@ -227,7 +235,7 @@ static int beside_unchanged(const struct area *area, uint8_t junk)
 #else
 
 /* Rooms are mapped once, with a page without access at both ends. */
-enum { ROOMS = 4, ROOM = 1 << 17 };
+enum { ROOMS = 5, ROOM = 1 << 17 };
 static uint8_t *rooms[ROOMS];
 static int rooms_lent;
 
@@ -732,7 +740,7 @@ struct side {
     struct answer reduced;
 };
 
-/* What compare returns. */
+/* What a job over several texts returns. */
 struct verdict {
     uint64_t number, line, text, count;
 };
@@ -973,9 +981,249 @@ static void check_inverse(const struct side *side, int at_front, uint8_t junk)
     }
 }
 
+/* ---- Slips ---- */
+
+enum { MOST_STEPS = 4096 };
+
+struct step {
+    int merges;
+    unsigned place;
+};
+
+/* A circuit as it is read, or after some steps. */
+struct gates {
+    uint16_t records[SHORTEST_LIST];
+    size_t count;
+};
+
+/* A slip as it stands, what its own lines are refused with, and else its steps. */
+struct slip {
+    const uint8_t *text;
+    size_t length;
+    uint64_t number, line;
+    struct step steps[MOST_STEPS];
+    size_t count;
+};
+
+/* Reads a line of a slip, with its end, and gives its length; 0 if it isn't in form. */
+static size_t read_step(const uint8_t *line, size_t size, struct step *step)
+{
+    static const char *const words[] = { "(pass ", "(merge " };
+    for (int merges = 0; merges < 2; merges++) {
+        size_t place = strlen(words[merges]), digits = 0;
+        if (size < place || memcmp(line, words[merges], place))
+            continue;
+        *step = (struct step){ merges, 0 };
+        for (; place + digits < size && is_digit(line[place + digits]); digits++)
+            step->place = digits < 4 ? 10 * step->place + line[place + digits] - '0' : 0;
+        if (digits == 0 || digits > 4 || (digits > 1 && line[place] == '0'))
+            return 0;
+        place += digits;
+        return size - place >= 2 && !memcmp(line + place, ")\n", 2) ? place + 2 : 0;
+    }
+    return 0;
+}
+
+static void read_slip(struct slip *slip)
+{
+    struct step step;
+    size_t size;
+    slip->number = slip->line = slip->count = 0;
+    if (slip->length > LONGEST_TEXT) {
+        slip->number = 1;
+        return;
+    }
+    for (size_t start = 0; start < slip->length; start += size) {
+        size = read_step(slip->text + start, slip->length - start, &step);
+        if (!size || slip->count == MOST_STEPS) {
+            slip->number = size ? 9 : 3;
+            slip->line = slip->count + 1;
+            return;
+        }
+        slip->steps[slip->count++] = step;
+    }
+}
+
+/* The number at a place of an accepted text, which moves behind it. */
+static unsigned number_at(const uint8_t *text, size_t *place)
+{
+    unsigned number = 0;
+    for (; is_digit(text[*place]); ++*place)
+        number = 10 * number + text[*place] - '0';
+    return number;
+}
+
+/* The gates of an accepted circuit text, as they stand. */
+static void read_gates(const uint8_t *text, size_t length, struct gates *gates)
+{
+    size_t place = length_of(text, 1);
+    gates->count = 0;
+    while (place < length) {
+        const uint8_t *word = text + place + 1;
+        unsigned slot = 0, power = 2;
+        while (!is_digit(text[place]))
+            place++;
+        unsigned target = number_at(text, &place);
+        if (*word != 'n') {
+            slot = target + 1;
+            power = *word == 'c' ? 2 : word[1] == 'p' ? 3 : 1;
+            place++;
+            target = number_at(text, &place);
+        }
+        gates->records[gates->count++] = (uint16_t)((target * 33 + slot) * 4 + power);
+        /* The bracket and byte 10. */
+        place += 2;
+    }
+}
+
+/* The text of so many gates. */
+static size_t put_gates(uint8_t *text, unsigned lines, const struct gates *gates)
+{
+    size_t end = put_lines(text, lines);
+    for (size_t i = 0; i < gates->count; i++)
+        end += put_gate(SLIP, text + end, lines, gates->records[i]);
+    return end;
+}
+
+/* Takes a step where it is allowed. */
+static int take(const struct step *step, struct gates *gates)
+{
+    if (step->place == 0 || step->place >= gates->count)
+        return 0;
+    uint16_t *pair = gates->records + step->place - 1;
+    unsigned target = pair[0] / 132, slot = pair[0] / 4 % 33, other = pair[1] / 132, other_slot = pair[1] / 4 % 33;
+    if (!step->merges) {
+        uint16_t first = pair[0];
+        if (slot == other + 1 || other_slot == target + 1)
+            return 0;
+        pair[0] = pair[1];
+        pair[1] = first;
+        return 1;
+    }
+    if (target != other || slot != other_slot)
+        return 0;
+    unsigned power = (pair[0] + pair[1]) % 4, left = power != 0;
+    pair[0] = (uint16_t)(pair[0] - pair[0] % 4 + power);
+    memmove(pair + left, pair + 2, (gates->count - step->place - 1) * sizeof *pair);
+    gates->count -= 2 - left;
+    return 1;
+}
+
+/* What slip has to return, and the circuit that the steps end at where they are all
+   allowed; it is whole where the number is 0 or 13. */
+static struct verdict slip_due(const struct side *first, const struct slip *slip, const struct side *second,
+                               struct gates *end)
+{
+    static struct gates others;
+    const struct answer *a = &first->reduced, *b = &second->reduced;
+    if (a->number)
+        return (struct verdict){ a->number, a->line, 1, 0 };
+    if (slip->number)
+        return (struct verdict){ slip->number, slip->line, 2, 0 };
+    if (b->number)
+        return (struct verdict){ b->number, b->line, 3, 0 };
+    if (lines_of(first->text) != lines_of(second->text))
+        return (struct verdict){ 11, 0, 0, 0 };
+    read_gates(first->text, first->length, end);
+    read_gates(second->text, second->length, &others);
+    for (size_t i = 0; i < slip->count; i++)
+        if (!take(&slip->steps[i], end))
+            return (struct verdict){ 12, i + 1, 2, 0 };
+    if (end->count != others.count || memcmp(end->records, others.records, end->count * sizeof *end->records))
+        return (struct verdict){ 13, 0, 0, 0 };
+    return (struct verdict){ 0, 0, 0, 0 };
+}
+
+/* Checks a list: on success the circuit that the steps end at, which is the second one,
+   else what a refusal leaves. */
+static void check_slip_list(const struct verdict *got, const struct gates *end, const struct area *area,
+                            size_t list_length, uint8_t junk)
+{
+    const uint16_t *list = (const uint16_t *)area->bytes;
+    uint16_t rest = got->number == 1 || got->number == 2 ? (uint16_t)(junk << 8 | junk) : YILGORZA_NOT_0;
+    size_t gates = got->number ? 0 : end->count;
+    if (memcmp(list, end->records, gates * sizeof *list))
+        fail(SLIP, "a list isn't the second circuit");
+    if (!all_records(list + gates, list_length - gates, rest))
+        fail(SLIP, "the records after a list");
+    if (!beside_unchanged(area, junk))
+        fail(SLIP, "bytes beside a list were written");
+}
+
+/* One slip; gives its number. */
+static uint64_t follow(const struct side *first, const struct slip *slip, const struct side *second, int at_front,
+                       uint8_t junk, struct gates *end)
+{
+    const uint8_t *bytes[3] = { first->text, slip->text, second->text };
+    size_t lengths[3] = { first->length, slip->length, second->length };
+    size_t list_lengths[2] = { first->list_length, second->list_length };
+    struct area texts[3], lists[2];
+    /* The list of the second circuit has junk of its own. */
+    uint8_t junks[2] = { junk, (uint8_t)(junk ^ 1) };
+    uint64_t outcome[6] = { 99, 99, 99, 99, 99, 99 };
+    struct verdict expected = slip_due(first, slip, second, end);
+    for (int i = 0; i < 3; i++) {
+        lend(&texts[i], lengths[i], at_front, junk);
+        if (lengths[i])
+            memcpy(texts[i].bytes, bytes[i], lengths[i]);
+    }
+    for (int i = 0; i < 2; i++)
+        lend(&lists[i], list_lengths[i] * sizeof(uint16_t), at_front, junks[i]);
+    yilgorza_slip(texts[0].bytes, lengths[0], (uint16_t *)lists[0].bytes, list_lengths[0], texts[1].bytes, lengths[1],
+                  texts[2].bytes, lengths[2], (uint16_t *)lists[1].bytes, list_lengths[1], outcome + 1);
+    struct verdict got = { outcome[1], outcome[2], outcome[3], outcome[4] };
+    if (outcome[0] != 99 || outcome[5] != 99)
+        fail(SLIP, "a word beside the outcome was written");
+    if (memcmp(&got, &expected, sizeof got))
+        fail(SLIP, "reduce or the steps say otherwise");
+    for (int i = 1; i >= 0; i--) {
+        check_slip_list(&got, end, &lists[i], list_lengths[i], junks[i]);
+        take_back(&lists[i]);
+    }
+    for (int i = 2; i >= 0; i--) {
+        if (lengths[i] && memcmp(texts[i].bytes, bytes[i], lengths[i]))
+            fail(SLIP, "a text was changed");
+        if (!beside_unchanged(&texts[i], junk))
+            fail(SLIP, "bytes beside a text were written");
+        take_back(&texts[i]);
+    }
+    slips_accepted += !got.number && slip->count;
+    slips_not_allowed += got.number == 12;
+    slips_elsewhere += got.number == 13;
+    slips_of_other_lines += got.number == 11;
+    slips_not_read += got.number != 1 && got.text == 2 && got.number != 12;
+    count_outcome(SLIP, got.number, got.line, got.text, got.count);
+    return got.number;
+}
+
+/* A slip between two circuits, either way round; and where its steps lead from the first,
+   which has the same reduced list. */
+static void slips_of_two_texts(struct slip *slip, const struct side *sides, int at_front, uint8_t junk)
+{
+    static uint8_t text[LONGEST_JOIN];
+    static struct side last;
+    static struct gates end;
+    read_slip(slip);
+    follow(&sides[0], slip, &sides[1], at_front, junk, &end);
+    for (int i = 1; i >= 0; i--) {
+        uint64_t number = follow(&sides[i], slip, &sides[i], at_front, junk, &end);
+        if (number && number != 13)
+            continue;
+        size_t length = put_gates(text, lines_of(sides[i].text), &end);
+        last = (struct side){ .text = text, .length = length, .list_length = sides[i].list_length };
+        run(REDUCE, text, length, last.list_length, AMPLE, at_front, junk, &last.reduced);
+        if (last.reduced.number || !same_list(&last.reduced, &sides[i].reduced))
+            fail(SLIP, "steps lead to another reduced list");
+        if (follow(&sides[i], slip, &last, at_front, junk, &end))
+            fail(SLIP, "the circuit that the steps end at is refused");
+    }
+    follow(&sides[1], slip, &sides[0], at_front, junk, &end);
+}
+
 /* ---- Inputs ---- */
 
-enum { LONGEST_INPUT = LONGEST_TEXT + 8 };
+/* Of the choices the fourth is another one for a slip. */
+enum { LONGEST_INPUT = LONGEST_TEXT + 8, MANY_STEPS = 8 };
 
 /* A text of an input, its last line repeated, in the room given, where the input
    says so. */
@@ -998,6 +1246,10 @@ static const uint8_t *text_of(uint8_t *text, const uint8_t *data, size_t *length
     case 7:
         limit = LONGEST_TEXT - 1 + detail % 4;
         times = limit;
+        break;
+    case MANY_STEPS:
+        limit = LONGEST_INPUT;
+        times = MOST_STEPS - 8 + detail % 16;
         break;
     default:
         return data;
@@ -1092,20 +1344,26 @@ int LLVMFuzzerTestOneInput(const uint8_t *data, size_t size)
 {
     static const size_t list_lengths[] = { 4096, 4096, 4096, 4096, 4096, 4096, 4096, 4096,
                                            4096, 4095, 4097, 5000, 4500, 4094, 1, 0 };
-    static uint8_t repeated[2][LONGEST_INPUT];
+    static uint8_t repeated[3][LONGEST_INPUT];
     static struct side sides[2];
+    static struct slip slip;
     if (size < 4)
         return 0;
     const uint8_t *first = data + 4, *end = data + size;
     const uint8_t *cut = memchr(first, '%', (size_t)(end - first));
     const uint8_t *second = cut ? cut + 1 : end;
+    const uint8_t *cut_again = memchr(second, '%', (size_t)(end - second));
+    const uint8_t *third = cut_again ? cut_again + 1 : end;
     sides[0].length = (size_t)((cut ? cut : end) - first);
     sides[0].text = text_of(repeated[0], first, &sides[0].length, data[3] >> 1 & 7, data[2]);
     sides[0].list_length = list_lengths[data[0] & 15];
-    sides[1].length = (size_t)(end - second);
+    sides[1].length = (size_t)((cut_again ? cut_again : end) - second);
     sides[1].text = text_of(repeated[1], second, &sides[1].length, data[3] >> 4 & 7, data[2]);
     sides[1].list_length = list_lengths[data[0] >> 4];
-    if (sides[0].length > LONGEST_INPUT || sides[1].length > LONGEST_INPUT)
+    unsigned choice = data[1] >> 4 & 7;
+    slip.length = (size_t)(end - third);
+    slip.text = text_of(repeated[2], third, &slip.length, choice == 4 ? MANY_STEPS : choice, data[2]);
+    if (sides[0].length > LONGEST_INPUT || sides[1].length > LONGEST_INPUT || slip.length > LONGEST_INPUT)
         return 0;
     int at_front = data[3] & 1;
     uint8_t junk = (uint8_t)(data[2] | 0x20);
@@ -1113,6 +1371,7 @@ int LLVMFuzzerTestOneInput(const uint8_t *data, size_t size)
     job_over_two_texts(sides, at_front, junk);
     joins_of_two_texts(data, sides, at_front, junk);
     check_inverse(&sides[0], at_front, junk);
+    slips_of_two_texts(&slip, sides, at_front, junk);
     return 0;
 }
 
@@ -1121,6 +1380,7 @@ int LLVMFuzzerTestOneInput(const uint8_t *data, size_t size)
 /* The corpus has more of them than that. */
 enum { FEWEST_SIGNED = 5, FEWEST_WIDE = 3, FEWEST_INVERTED = 20, FEWEST_JOINED = 40, FEWEST_REFUSED = 4 };
 enum { FEWEST_KEPT = 10, FEWEST_KEPT_REFUSED = 2 };
+enum { FEWEST_SLIPS = 20, FEWEST_SLIPS_REFUSED = 10 };
 
 int main(int argc, char **argv)
 {
@@ -1153,6 +1413,13 @@ int main(int argc, char **argv)
         || joins_over < FEWEST_REFUSED) {
         fprintf(stderr, "fuzz: FAILED: only %lu circuits were inverted, %lu joined, %lu refused by 11, %lu by 9\n",
                 inverted, joined, joins_of_other_lines, joins_over);
+        return 1;
+    }
+    if (slips_accepted < FEWEST_SLIPS || slips_not_allowed < FEWEST_SLIPS_REFUSED
+        || slips_elsewhere < FEWEST_SLIPS_REFUSED || slips_of_other_lines < FEWEST_SLIPS_REFUSED
+        || slips_not_read < FEWEST_SLIPS_REFUSED) {
+        fprintf(stderr, "fuzz: FAILED: only %lu slips were accepted, %lu refused by 12, %lu by 13, %lu by 11, %lu by their lines\n",
+                slips_accepted, slips_not_allowed, slips_elsewhere, slips_of_other_lines, slips_not_read);
         return 1;
     }
     printf("%d passed, 0 failed\n", argc - 1);

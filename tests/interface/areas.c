@@ -155,6 +155,32 @@ static int lent_join(struct side first, struct side second, struct room room,
            holds(list, first.records, number, gates);
 }
 
+/* The same of slip, with a slip of its own area: whether the outcome is this one, and
+   both lists hold so many gates. */
+static int lent_three(struct side first, struct side slip, struct side second,
+                      const uint64_t *numbers, size_t gates) {
+    uint64_t number = numbers[YILGORZA_SEVERAL_NUMBER];
+    paint_list(list);
+    paint_list(second_list);
+    memset(several, 0xfe, 4 * sizeof *several);
+    yilgorza_slip(first.bytes, first.length, last(list, first.records), first.records,
+                  slip.bytes, slip.length, second.bytes, second.length,
+                  last(second_list, second.records), second.records, several);
+    return memcmp(several, numbers, 4 * sizeof *several) == 0 &&
+           holds(list, first.records, number, number ? 0 : gates) &&
+           holds(second_list, second.records, number, number ? 0 : gates) &&
+           (number || memcmp(last(list, first.records),
+                             last(second_list, second.records),
+                             gates * sizeof *list) == 0);
+}
+
+/* A refusal of slip, or with 0 its success without a gate. */
+static int refused_three(struct side first, struct side slip, struct side second,
+                         uint64_t number, uint64_t line, uint64_t text) {
+    uint64_t numbers[] = {number, line, text, 0};
+    return lent_three(first, slip, second, numbers, 0);
+}
+
 static void test_jobs(const uint8_t *const *bytes) {
     static const uint8_t one[] = "(lines 1)\n";
     const struct side good = {one, 10, ENOUGH, 0}, empty = {NULL, 0, ENOUGH, 0},
@@ -342,6 +368,86 @@ static void test_join(const uint8_t *const *bytes) {
             "join of one text with itself, from one area");
 }
 
+/* Each slip between every two texts. */
+static void test_slips(const uint8_t *const *bytes) {
+    char name[120];
+
+    for (int k = 0; k < SLIPS; k++) {
+        struct side steps = {fixed(&slips[k]), slips[k].length, 0, 0};
+        int all = 1;
+        for (int i = 0; i < TEXTS * TEXTS; i++) {
+            const struct text *first = &texts[i / TEXTS], *second = &texts[i % TEXTS];
+            struct side a = {bytes[i / TEXTS], first->length, ENOUGH, 0};
+            struct side b = {bytes[i % TEXTS], second->length, RECORDS, 0};
+            uint64_t e[4];
+            slipped(first, &slips[k], second, e);
+            all &= lent_three(a, steps, b, e, second->read);
+            a.records = RECORDS;
+            b.records = ENOUGH;
+            all &= lent_three(a, steps, b, e, second->read);
+        }
+        snprintf(name, sizeof name, "slip of every two texts with %s", slips[k].name);
+        verdict(all, name);
+    }
+}
+
+static void test_slip(const uint8_t *const *bytes) {
+    static const uint8_t long_text[YILGORZA_TEXT_BYTES + 1] = "(";
+    static const uint8_t one[] = "(lines 1)\n", two[] = "(lines 2)\n";
+    static const uint64_t accepted[4], refused[4] = {12, 4096, 2, 0};
+    const struct side none = {NULL, 0, 0, 0}, empty = {NULL, 0, ENOUGH, 0},
+                      overlong = {long_text, sizeof long_text, ENOUGH, 0},
+                      good = {one, 10, ENOUGH, 0}, bare = {one, 10, 0, 0},
+                      shorter = {one, 10, ENOUGH - 1, 0},
+                      longer = {one, 10, RECORDS, 0}, tiny = {NULL, 0, 10, 0},
+                      other = {two, 10, ENOUGH, 0}, steps = {slips[1].bytes, 10, 0, 0};
+
+    verdict(refused_three(good, none, good, 0, 0, 0) &&
+                refused_three(longer, none, good, 0, 0, 0) &&
+                refused_three(empty, none, good, 3, 1, 1) &&
+                refused_three(good, none, empty, 3, 1, 3) &&
+                refused_three(bare, none, good, 2, 0, 1) &&
+                refused_three(good, none, bare, 2, 0, 3) &&
+                refused_three(none, none, none, 2, 0, 1) &&
+                refused_three(empty, none, none, 3, 1, 1) &&
+                refused_three(good, none, none, 2, 0, 3),
+            "slip with pointers that are null and lengths of 0");
+    verdict(refused_three(shorter, none, good, 2, 0, 1) &&
+                refused_three(good, none, shorter, 2, 0, 3) &&
+                refused_three(shorter, overlong, shorter, 2, 0, 1) &&
+                refused_three(longer, steps, shorter, 2, 0, 3) &&
+                refused_three(good, none, tiny, 2, 0, 3) &&
+                refused_three(good, steps, tiny, 2, 0, 3),
+            "slip with a list too short by one, both lists left as they are");
+    verdict(refused_three(overlong, overlong, bare, 1, 0, 1) &&
+                refused_three(longer, overlong, bare, 1, 0, 2) &&
+                refused_three(good, overlong, empty, 1, 0, 2) &&
+                refused_three(longer, steps, overlong, 1, 0, 3),
+            "slip with a text too long, both lists left as they are");
+    verdict(refused_three(empty, overlong, tiny, 3, 1, 1) &&
+                refused_three(empty, none, shorter, 3, 1, 1) &&
+                refused_three(good, good, tiny, 3, 1, 2) &&
+                refused_three(longer, good, bare, 3, 1, 2) &&
+                refused_three(longer, steps, empty, 3, 1, 3),
+            "slip with a line refused, `not 0` in all of both lists, short ones too");
+    verdict(refused_three(good, none, other, 11, 0, 0) &&
+                refused_three(other, steps, longer, 11, 0, 0) &&
+                refused_three(good, steps, longer, 12, 1, 2),
+            "slip with other lines or no neighbours, `not 0` in all of both lists");
+    struct side all = {fixed(&merging), merging.length, ENOUGH, 0};
+    struct side end = {fixed(&merged), merged.length, RECORDS, 0};
+    struct side merges = {fixed(&slips[MERGES]), slips[MERGES].length, 0, 0};
+    struct side more = {fixed(&slips[MERGES_AND_ONE]), slips[MERGES_AND_ONE].length,
+                        0, 0};
+    verdict(lent_three(all, merges, end, accepted, 1) &&
+                list[RECORDS - ENOUGH] == 31 * 132 + 31 * 4 + 1,
+            "slip of 4,095 merges of 4,096 gates into one");
+    verdict(lent_three(all, more, end, refused, 0), "slip with one merge more");
+    struct side it = {bytes[3], texts[3].length, ENOUGH, 0}, same = it;
+    verdict(lent_three(it, none, same, accepted, 4096),
+            "slip from a text to itself, from one area");
+}
+
 int main(void) {
     const uint8_t *bytes[TEXTS];
     list = area(RECORDS * sizeof *list);
@@ -356,5 +462,7 @@ int main(void) {
     test_empty_areas(bytes);
     test_compare(bytes);
     test_join(bytes);
+    test_slips(bytes);
+    test_slip(bytes);
     return counts();
 }

@@ -1,9 +1,9 @@
-/* How much stack a call takes: each function runs, on each text or each pair of
-   texts, on a stack of its own between two pages that may not be touched. The stack is
-   painted before the call; the lowest byte that has changed after it is as far as the
-   call came. It is painted twice, in two colours, since a call may write one of them.
-   The stack has twice the 96 KiB that the header states, so that a call that takes
-   more of it is measured too. */
+/* How much stack a call takes: each function runs, on each text, each pair of texts or
+   each pair with some slips, on a stack of its own between two pages that may not be
+   touched. The stack is painted before the call; the lowest byte that has changed after
+   it is as far as the call came. It is painted twice, in two colours, since a call may
+   write one of them. The stack has twice the 96 KiB that the header states, so that a
+   call that takes more of it is measured too. */
 
 #include <sys/mman.h>
 #include <ucontext.h>
@@ -14,10 +14,10 @@
 enum { STATED = 96 * 1024, STACK = 2 * STATED };
 
 /* The functions: the jobs over one text, and these. */
-enum { COMPARE = JOBS, JOIN, GATE, FUNCTIONS };
+enum { COMPARE = JOBS, JOIN, SLIP, GATE, FUNCTIONS };
 
 static const char *const names[] = {"map",     "reduce", "invert", "quote only",
-                                    "compare", "join",   "gate"};
+                                    "compare", "join",   "slip",   "gate"};
 
 static uint16_t list[YILGORZA_LIST_RECORDS], second_list[YILGORZA_LIST_RECORDS];
 static uint8_t answer[YILGORZA_ANSWER_BYTES];
@@ -28,7 +28,7 @@ static ucontext_t here, there;
 
 /* What runs there. */
 static int function;
-static const struct text *read_text, *second_text;
+static const struct text *read_text, *second_text, *read_slip;
 static size_t list_len, second_list_len, answer_len;
 
 static void call(void) {
@@ -43,6 +43,10 @@ static void call(void) {
         yilgorza_join(read_text->bytes, read_text->length, list, list_len,
                       second_text->bytes, second_text->length, answer, answer_len,
                       outcome);
+    else if (function == SLIP)
+        yilgorza_slip(read_text->bytes, read_text->length, list, list_len,
+                      read_slip->bytes, read_slip->length, second_text->bytes,
+                      second_text->length, second_list, second_list_len, outcome);
     else
         do_job(function, read_text->bytes, read_text->length, list, list_len, answer,
                answer_len, outcome);
@@ -147,6 +151,51 @@ static size_t most_of_join(void) {
     return most;
 }
 
+/* The most of slip with a circuit, a slip and a second one, with lists that are long
+   enough, and with either of them too short; 0 if the outcome is another one. */
+static size_t most_of_three(const struct text *first, const struct text *slip,
+                            const struct text *second, const uint64_t *numbers) {
+    size_t most;
+    read_text = first;
+    read_slip = slip;
+    second_text = second;
+    list_len = second_list_len = YILGORZA_LIST_RECORDS;
+    most = used();
+    if (memcmp(outcome, numbers, sizeof outcome)) {
+        verdict(0, slip->name);
+        return 0;
+    }
+    list_len--;
+    most = larger(most, used());
+    list_len++;
+    second_list_len--;
+    return larger(most, used());
+}
+
+/* The most of slip: over all pairs of texts with an empty slip and with a refused step,
+   over all texts and slips, and with the longest slips there are. */
+static size_t most_of_slip(void) {
+    static const uint64_t accepted[4], refused[4] = {12, 4096, 2, 0};
+    size_t most = 0, one;
+    for (int i = 0; i < TEXTS * (2 * TEXTS + SLIPS); i++) {
+        uint64_t numbers[4];
+        int k = i / TEXTS;
+        const struct text *first = &texts[i % TEXTS],
+                          *slip = &slips[k < TEXTS       ? EMPTY
+                                         : k < 2 * TEXTS ? PLACE_0
+                                                         : k - 2 * TEXTS],
+                          *second = k < 2 * TEXTS ? &texts[k % TEXTS] : first;
+        slipped(first, slip, second, numbers);
+        one = most_of_three(first, slip, second, numbers);
+        if (!one)
+            return 0;
+        most = larger(most, one);
+    }
+    most = larger(most, most_of_three(&merging, &slips[MERGES], &merged, accepted));
+    one = most_of_three(&merging, &slips[MERGES_AND_ONE], &merged, refused);
+    return larger(most, one);
+}
+
 int main(void) {
     size_t page = sysconf(_SC_PAGESIZE), most;
     char name[80];
@@ -162,6 +211,7 @@ int main(void) {
         most = function == GATE      ? used()
                : function == COMPARE ? most_of_compare()
                : function == JOIN    ? most_of_join()
+               : function == SLIP    ? most_of_slip()
                                      : most_of_job();
         snprintf(name, sizeof name, "%s takes at most %zu bytes of stack",
                  names[function], most);

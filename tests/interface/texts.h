@@ -61,6 +61,42 @@ static struct text *circuit(int i, const char *name, int place, size_t gates) {
     return t;
 }
 
+/* The slips, each with the number and the line of its own refusal; and a circuit with
+   the one that the longest of them leads to. */
+enum { EMPTY, ONE_MERGE, PASS_MERGE, PLACE_0, PASSES, NO_END, TOO_MANY_STEPS, OVERLONG,
+       MERGES, MERGES_AND_ONE, SLIPS };
+static struct text slips[SLIPS], merging, merged;
+
+static struct text *slip(int i, const char *name, int number, int line) {
+    slips[i].name = name;
+    slips[i].reduced[0] = number;
+    slips[i].reduced[1] = line;
+    return &slips[i];
+}
+
+static void add_times(struct text *t, const char *words, int times) {
+    for (int i = 0; i < times; i++)
+        add(t, words);
+}
+
+static void make_slips(void) {
+    slip(EMPTY, "an empty slip", 0, 0);
+    add(slip(ONE_MERGE, "one merge", 0, 0), "(merge 1)\n");
+    add(slip(PASS_MERGE, "a pass and a merge", 0, 0), "(pass 1)\n(merge 2)\n");
+    add(slip(PLACE_0, "a pass at place 0", 0, 0), "(pass 0)\n");
+    add_times(slip(PASSES, "4,096 passes", 0, 0), "(pass 1)\n", 4096);
+    add(slip(NO_END, "a slip without its last line end", 3, 2),
+        "(pass 1)\n(pass 1)");
+    add_times(slip(TOO_MANY_STEPS, "4,097 steps", 9, 4097), "(pass 1)\n", 4097);
+    add_times(slip(OVERLONG, "a slip of 60,001 bytes", 1, 0), "(", 60001);
+    add_times(slip(MERGES, "4,095 merges", 0, 0), "(merge 1)\n", 4095);
+    add_times(slip(MERGES_AND_ONE, "4,096 merges", 0, 0), "(merge 1)\n", 4096);
+    /* The sums are 1, 2, 3, 1, 2, 3 and so on: nothing vanishes before the end. */
+    add(&merging, "(lines 32)\n(v 30 31)\n");
+    add_times(&merging, "(v 30 31)\n(v 30 31)\n(cn 30 31)\n", 1365);
+    add(&merged, "(lines 32)\n(v 30 31)\n");
+}
+
 /* The longest work of each job, every refusal of a text, circuits to compare,
    document 01's cascades with their quotes, and kept lines. */
 static void make_texts(void) {
@@ -185,6 +221,7 @@ static void make_texts(void) {
     for (i = 0; i < 11; i++)
         add(t, wide);
 
+    make_slips();
     for (t = texts; t < texts + TEXTS; t++)
         if (t->reduced[0] == 0) {
             t->lines = atoi((const char *)t->bytes + 7);
@@ -278,6 +315,43 @@ static size_t joined(const struct text *first, const struct text *second,
         return 0;
     }
     return joined_gates(first, second);
+}
+
+/* The text at which a slip in form ends that begins at this one, or NULL if its first
+   step is not allowed. Of the texts only 20 has neighbours at its front that pass: by
+   a pass and a merge it becomes 19. None has two there that merge. */
+static const struct text *end_of(const struct text *first, const struct text *slip) {
+    if (slip == &slips[EMPTY])
+        return first;
+    if (first == &texts[20] && slip == &slips[PASS_MERGE])
+        return &texts[19];
+    if (first == &texts[20] && slip == &slips[PASSES])
+        return first;
+    return NULL;
+}
+
+/* The four numbers that three texts are to get from slip, with lists that are long
+   enough: a refusal in the order of the texts, else 11, else 12, else 13. */
+static void slipped(const struct text *first, const struct text *slip,
+                    const struct text *second, uint64_t *numbers) {
+    const struct text *all[] = {first, slip, second}, *end = end_of(first, slip);
+    memset(numbers, 0, 4 * sizeof *numbers);
+    for (int i = 0; i < 3; i++)
+        if (all[i]->reduced[0]) {
+            numbers[YILGORZA_SEVERAL_NUMBER] = all[i]->reduced[0];
+            numbers[YILGORZA_SEVERAL_LINE] = all[i]->reduced[1];
+            numbers[YILGORZA_SEVERAL_TEXT] = i + 1;
+            return;
+        }
+    if (first->lines != second->lines) {
+        numbers[YILGORZA_SEVERAL_NUMBER] = 11;
+    } else if (!end) {
+        numbers[YILGORZA_SEVERAL_NUMBER] = 12;
+        numbers[YILGORZA_SEVERAL_LINE] = 1;
+        numbers[YILGORZA_SEVERAL_TEXT] = 2;
+    } else if (end != second) {
+        numbers[YILGORZA_SEVERAL_NUMBER] = 13;
+    }
 }
 
 static int passed, failed;

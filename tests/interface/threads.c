@@ -6,8 +6,9 @@
 
 #include "texts.h"
 
-/* The jobs over one text, and compare and join of a text with the next. */
-enum { COMPARE = JOBS, JOIN, ALL_JOBS };
+/* The jobs over one text, compare and join of a text with the next, and slip from a text
+   to itself. */
+enum { COMPARE = JOBS, JOIN, SLIP, ALL_JOBS };
 
 enum { THREADS = 2, ROUNDS = 60, CALLS = ALL_JOBS * TEXTS };
 
@@ -27,6 +28,8 @@ static const struct text *next_of(int call) {
     return &texts[(call / ALL_JOBS + 1) % TEXTS];
 }
 
+static const struct text *slip_of(int call) { return &slips[call / ALL_JOBS % SLIPS]; }
+
 static void answer_one(int call, struct lent *l) {
     const struct text *t = text_of(call), *n = next_of(call);
     memset(l, 0, sizeof *l);
@@ -37,6 +40,10 @@ static void answer_one(int call, struct lent *l) {
     else if (job_of(call) == JOIN)
         yilgorza_join(t->bytes, t->length, l->list, YILGORZA_LIST_RECORDS, n->bytes,
                       n->length, l->answer, YILGORZA_ANSWER_BYTES, l->outcome);
+    else if (job_of(call) == SLIP)
+        yilgorza_slip(t->bytes, t->length, l->list, YILGORZA_LIST_RECORDS,
+                      slip_of(call)->bytes, slip_of(call)->length, t->bytes, t->length,
+                      l->second_list, YILGORZA_LIST_RECORDS, l->outcome);
     else
         do_job(job_of(call), t->bytes, t->length, l->list, YILGORZA_LIST_RECORDS,
                l->answer, YILGORZA_ANSWER_BYTES, l->outcome);
@@ -45,14 +52,17 @@ static void answer_one(int call, struct lent *l) {
 /* Whether the outcome is the one asked for; the bytes of a text are not known. */
 static int is_expected(int call, const uint64_t *outcome) {
     uint64_t numbers[4];
-    if (job_of(call) != COMPARE) {
+    if (job_of(call) != COMPARE && job_of(call) != SLIP) {
         if (job_of(call) == JOIN)
             joined(text_of(call), next_of(call), numbers);
         else
             expected(job_of(call), text_of(call), numbers);
         return memcmp(outcome, numbers, 3 * sizeof *numbers) == 0;
     }
-    compared(text_of(call), next_of(call), numbers);
+    if (job_of(call) == COMPARE)
+        compared(text_of(call), next_of(call), numbers);
+    else
+        slipped(text_of(call), slip_of(call), text_of(call), numbers);
     return memcmp(outcome, numbers, sizeof numbers) == 0;
 }
 

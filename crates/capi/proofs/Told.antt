@@ -30,6 +30,8 @@ use Rattle.joins.specs.Join.{Join}
 use Rattle.joins.proofs.One.{join-one}
 use Rattle.comparison.specs.Compare.{Compare}
 use Rattle.comparison.proofs.One.{compare-one}
+use Rattle.slips.specs.Slip.{Slip}
+use Rattle.slips.proofs.One.{slip-one}
 use Rattle.capi.specs.Exported.{codes, not-0, numbers, four, front, written, stored, TellsOne, Tells, TellsText, TellsTwo}
 
 -- ---- the number of `not 0`
@@ -166,3 +168,7 @@ join-tells-one s l t a = tells-text-one l (join-one s (gates l) t a)
 -- and compare's: the outcome and both lists
 pub compare-tells-one : (s l t k : List ℕ) {o l′ k′ p m n : List ℕ} → TellsTwo (λ l m x. Compare s l t m x) l k o l′ k′ → TellsTwo (λ l m x. Compare s l t m x) l k p m n → (o ≡ p) × (l′ ≡ m) × (k′ ≡ n)
 compare-tells-one s l t k = tells-two-one l k (compare-one s (gates l) t (gates k))
+
+-- and slip's
+pub slip-tells-one : (s l t u k : List ℕ) {o l′ k′ p m n : List ℕ} → TellsTwo (λ l m x. Slip s l t u m x) l k o l′ k′ → TellsTwo (λ l m x. Slip s l t u m x) l k p m n → (o ≡ p) × (l′ ≡ m) × (k′ ≡ n)
+slip-tells-one s l t u k = tells-two-one l k (slip-one s (gates l) t u (gates k))

@@ -2,7 +2,7 @@
 -- Assumes nothing.
 use mathlib.Core.Path.{_≡_}
 use mathlib.Core.Logic.{_≢_}
-use mathlib.Core.Bool.{Bool, true, false, cond}
+use mathlib.Core.Bool.{cond}
 use mathlib.Core.List.{List, [], _∷_, _++_, map}
 use Prim.Native.Nat.{ℕ, _-_, _≤_}
 use lib.Dec.{eqb}
@@ -85,11 +85,6 @@ pub data RecordParts (k : ℕ) : List ℕ → Type 0 where
   of-none : ((g : Gate) → Valid 32 g → code g ≢ k) → RecordParts k (three 0 0 0)
 
 -- ---- what the functions beneath promise
-
--- a flag that tells whether P holds
-abbrev pub Whether : Type 0 → Bool → Type 0
-Whether P true = P
-Whether P false = P → ⊥
 
 -- record i: code i of the first `count`, else `not 0`
 abbrev pub record-at : List ℕ → ℕ → ℕ → ℕ

@@ -10,12 +10,14 @@ ghost use mathlib.Core.Path.{_≡_};
 ghost use Prim.Native.Nat.{_≤_};
 ghost use lib.ListN.{length};
 ghost use Rattle.gates.specs.Code.{Code};
+ghost use Rattle.stepping.specs.Stepped.{Whether};
 ghost use Rattle.records.specs.Records.{Fits};
 ghost use Rattle.jobs.specs.Jobs.{mapping, reducing, writes};
 ghost use Rattle.inversion.specs.Invert.{Invert};
 ghost use Rattle.joins.specs.Join.{Join};
 ghost use Rattle.comparison.specs.Compare.{Compare};
-ghost use Rattle.capi.specs.Exported.{four, record-at, written, stored, Storable, TellsOne, Tells, TellsText, TellsTwo, Whether, gate-parts, RecordParts};
+ghost use Rattle.slips.specs.Slip.{Slip};
+ghost use Rattle.capi.specs.Exported.{four, record-at, written, stored, Storable, TellsOne, Tells, TellsText, TellsTwo, gate-parts, RecordParts};
 
 // The record of the gate `not 0`.
 const NOT_0: u16 = 2;
@@ -173,6 +175,22 @@ pub extern "C" fn yilgorza_compare(
     ensures { λ _. ⌜ TellsTwo (λ l m x. Compare (now (first .entry)) l (now (second .entry)) m x) (now («first_list» .entry)) (now («second_list» .entry)) (now (outcome .exit)) (now («first_list» .exit)) (now («second_list» .exit)) ⌝ }
 {
     let d = comparison::compare_codes(first, first_list.len(), second, second_list.len());
+    hand_over_two(d, first_list, second_list, outcome);
+}
+
+// Checks a slip, the steps that lead from one circuit text to another.
+#[no_mangle]
+pub extern "C" fn yilgorza_slip(
+    first: &[u8],
+    first_list: &mut [u16],
+    slip: &[u8],
+    second: &[u8],
+    second_list: &mut [u16],
+    outcome: &mut [u64; 4],
+)
+    ensures { λ _. ⌜ TellsTwo (λ l m x. Slip (now (first .entry)) l (now (slip .entry)) (now (second .entry)) m x) (now («first_list» .entry)) (now («second_list» .entry)) (now (outcome .exit)) (now («first_list» .exit)) (now («second_list» .exit)) ⌝ }
+{
+    let d = slips::slip_codes(first, first_list.len(), slip, second, second_list.len());
     hand_over_two(d, first_list, second_list, outcome);
 }
 

@@ -13,16 +13,12 @@ use Rattle.text.specs.declared.Refusal.{Refusal}
 use Rattle.text.specs.Refusals.{number-of}
 use Rattle.ordering.specs.Comparing.{count-of, compare-lists}
 use Rattle.habits.specs.Habits.{fine, away, Circuit, text-judged, Lent, Exit, Answer, filled, all-filled, refusal, success, answered}
-use Rattle.habits.specs.Demands.{Refuses, overlong, short-list, failing-line, Accepts}
-use Rattle.habits.proofs.Refused.{refuses-exactly-if, accepts-exactly-if, refuses-or-accepts}
-use Rattle.habits.proofs.Says.{says-away, says-fine, filled-first, filled-later}
+use Rattle.habits.specs.Demands.{Refuses, Accepts}
+use Rattle.habits.proofs.Refused.{refuses-exactly-if, text-accepted, refuses-or-accepts, some-number}
+use Rattle.habits.proofs.Says.{says-away, says-fine, filled-holds}
 use Rattle.comparison.specs.Compare.{judged, Compared, Compare}
-use Rattle.comparison.specs.Demands.{Due, by-first, by-second, no-refusal, Holds, SuccessLeaves, Demand}
+use Rattle.comparison.specs.Demands.{Due, by-first, by-second, no-refusal, SuccessLeaves, Demand}
 use Rattle.comparison.proofs.One.{compare-numbered}
-
--- a text that is accepted, by its number of lines and its circuit
-pub text-accepted : (u : ℕ) {s : List ℕ} {k : ℕ} {h : Head} {c : List Gate} → Accepts kind.Circuit s (k ∷ []) h c → text-judged u kind.Circuit s (k ∷ []) ≡ fine (record { lines = h .lines; gates = c })
-text-accepted u {s} {k} {h} a = accepts-exactly-if u kind.Circuit s (k ∷ []) _ .0 (h, a, refl)
 
 module _ (s : List ℕ) (l : List Gate) (t : List ℕ) (m : List Gate) (x : Exit) (says : Compare s l t m x) where
   abbrev lent : Lent
@@ -84,9 +80,6 @@ module _ (s : List ℕ) (l : List Gate) (t : List ℕ) (m : List Gate) (x : Exit
 
   -- ---- what is left
 
-  holds : (r k : List Gate) → Holds r k (filled r k)
-  holds r k = record { first = filled-first r k; later = filled-later r k }
-
   leaves : {g h : Head} {c d : List Gate} → Accepts kind.Circuit s (length l ∷ []) g c → Accepts kind.Circuit t (length m ∷ []) h d → SuccessLeaves s l t m x
   leaves {g} {h} {c} {d} a b =
       let (p, q, i, j, z) = both-accepted a b in
@@ -104,16 +97,10 @@ module _ (s : List ℕ) (l : List Gate) (t : List ℕ) (m : List Gate) (x : Exit
         list-1 = filled p l;
         list-2 = filled q m;
         lists = ap (λ (y : Exit). y .lent .lists) z;
-        holds-1 = holds p l;
-        holds-2 = holds q m;
+        holds-1 = filled-holds p l;
+        holds-2 = filled-holds q m;
         counted = ap (λ (y : Exit). y .count) z;
       }
-
-  -- a number of the table is not 0
-  some-number : {u rooms : List ℕ} {n i : ℕ} → Refuses kind.Circuit u rooms n i → 1 ≤ n
-  some-number (overlong h) = omega arith
-  some-number (short-list h k) = omega arith
-  some-number (failing-line r i z e a b c) = omega (arith, a)
 
   succeeds : {n i u : ℕ} → n ≡ 0 → Due s l t m n i u → SuccessLeaves s l t m x
   succeeds e (by-first d) = absurd (omega (arith, e, some-number d))

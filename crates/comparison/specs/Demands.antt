@@ -4,9 +4,8 @@ use Prim.Native.Nat.{ℕ, _-_, _≤_}
 use mathlib.Core.Path.{_≡_}
 use mathlib.Core.Logic.{_↔_, _⊎_}
 use mathlib.Core.List.{List, [], _∷_}
-use lib.ListN.{length, take, drop, replicate}
+use lib.ListN.{length}
 use Rattle.gates.specs.declared.Gate.{Gate}
-use Rattle.gates.specs.declared.Gate.the-variants.{Not}
 use Rattle.gates.specs.Circuit.{Linked}
 use Rattle.gates.specs.Reduced.{Reduced}
 use Rattle.text.specs.Heads.{unkept}
@@ -14,7 +13,7 @@ use Rattle.text.specs.declared.Head.{Head}
 use Rattle.text.specs.declared.Kind.the-variants.{Circuit}
 use Rattle.ordering.specs.Comparing.{count-of, compare-lists}
 use Rattle.habits.specs.Habits.{Exit}
-use Rattle.habits.specs.Demands.{Refuses, Accepts}
+use Rattle.habits.specs.Demands.{Refuses, Accepts, RefusalLeaves, Holds}
 use Rattle.comparison.specs.Compare.{Compare}
 
 -- ---- the numbers, and what is left
@@ -26,19 +25,6 @@ pub data Due (s : List ℕ) (l : List Gate) (t : List ℕ) (m : List Gate) : ℕ
   by-second : {n i : ℕ} {g : Head} {c : List Gate} → Accepts Circuit s (length l ∷ []) g c → Refuses Circuit t (length m ∷ []) n i → Due s l t m n i 2
   -- success: number 0, line 0, text number 0
   no-refusal : {g h : Head} {c d : List Gate} → Accepts Circuit s (length l ∷ []) g c → Accepts Circuit t (length m ∷ []) h d → Due s l t m 0 0 0
-
--- what a refusal leaves
-pub record RefusalLeaves (l m : List Gate) (x : Exit) : Type 0 where
-  -- "A refusal returns its number, its line and count 0"
-  pub countless : x .count ≡ 0
-  -- "1 and 2 leave every lent list unchanged, any other refusal leaves `not 0` throughout"
-  pub early : x .number ≤ 2 → x .lent .lists ≡ l ∷ m ∷ []
-  pub late : 3 ≤ x .number → x .lent .lists ≡ replicate (length l) (Not 0) ∷ replicate (length m) (Not 0) ∷ []
-
--- the list l then holds first the list r, "then `not 0`"
-pub record Holds (r l l′ : List Gate) : Type 0 where
-  pub first : take (length r) l′ ≡ r
-  pub later : drop (length r) l′ ≡ replicate (length l - length r) (Not 0)
 
 -- what success leaves
 pub record SuccessLeaves (s : List ℕ) (l : List Gate) (t : List ℕ) (m : List Gate) (x : Exit) : Type 0 where

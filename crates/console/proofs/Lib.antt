@@ -6,3 +6,4 @@ pub mod Before
 pub mod JudgedBy
 pub mod Examples
 pub mod Numbers
+pub mod Told

@@ -9,7 +9,9 @@ use Rattle.files.specs.declared.Input.{Input}
 use Rattle.files.specs.declared.Input.the-variants.{Bytes}
 use Rattle.files.specs.declared.TwoInputs.{TwoInputs}
 use Rattle.files.specs.declared.TwoInputs.the-variants as two
-use Rattle.files.specs.Input.{Within, WithinTwo}
+use Rattle.files.specs.declared.ThreeInputs.{ThreeInputs}
+use Rattle.files.specs.declared.ThreeInputs.the-variants as three
+use Rattle.files.specs.Input.{Within, WithinTwo, WithinThree}
 
 -- the n bytes read stand within the buffer
 pub fits : (buffer : List ℕ) {r : Input} {n : ℕ} → Within 0 (length buffer) r → r ≡ Bytes n → n ≤ length buffer
@@ -31,3 +33,13 @@ pub wider : (m a b : ℕ) (r : TwoInputs) → m ≤ a → WithinTwo m b r → Wi
 wider m a b (two.Bytes i j) h w = (omega (arith, h, w .0), w .1)
 wider m a b two.Unreadable h w = tt
 wider m a b two.Misused h w = tt
+
+-- those of three texts stand within their buffers
+pub all-fit : (a b c : ℕ) {r : ThreeInputs} {m n k : ℕ} → WithinThree a b c r → r ≡ three.Bytes m n k → (m ≤ a) × (n ≤ b) × (k ≤ c)
+all-fit a b c w e = subst (WithinThree a b c) e w
+
+-- the first two may have more room than they need
+pub wider-both : (m n a b c : ℕ) (r : ThreeInputs) → (m ≤ a) × (n ≤ b) → WithinThree m n c r → WithinThree a b c r
+wider-both m n a b c (three.Bytes i j k) h w = (omega (arith, h .0, w .0), omega (arith, h .1, w .1), w .2)
+wider-both m n a b c three.Unreadable h w = tt
+wider-both m n a b c three.Misused h w = tt

@@ -1,7 +1,7 @@
 // How a program reads its texts, from the files that its arguments name or from standard input, and writes.
 ghost use Prim.Native.Nat.{_≤_};
 ghost use lib.ListN.{length};
-ghost use Rattle.files.specs.Input.{Within, WithinTwo};
+ghost use Rattle.files.specs.Input.{Within, WithinTwo, WithinThree};
 
 // How many bytes the name of a file may have.
 const NAME_BYTES: usize = 4095;
@@ -123,17 +123,56 @@ fn read_second(m: usize, second: &mut [u8]) -> TwoInputs
     }
 }
 
-// Reads the files that the two arguments name. Nothing is read of the second text where the first cannot be read.
+// Reads the files that the first two arguments name. Nothing is read of the second text where the first cannot be read.
+fn read_both(first: &mut [u8], second: &mut [u8]) -> TwoInputs
+    ensures { λ r. ⌜ WithinTwo (length (now (first .exit))) (length (now (second .exit))) r ⌝ }
+{
+    match read_argument(1, first) {
+        Input::Bytes(m) => read_second(m, second),
+        Input::Unreadable => TwoInputs::Unreadable,
+        Input::Misused => TwoInputs::Misused,
+    }
+}
+
+// Reads the texts of a program over two files: those that its two arguments name.
 pub fn read_two(first: &mut [u8], second: &mut [u8]) -> TwoInputs
     ensures { λ r. ⌜ WithinTwo (length (now (first .exit))) (length (now (second .exit))) r ⌝ }
 {
     if os::arg_count() != 3 {
         return TwoInputs::Misused;
     }
-    match read_argument(1, first) {
-        Input::Bytes(m) => read_second(m, second),
-        Input::Unreadable => TwoInputs::Unreadable,
-        Input::Misused => TwoInputs::Misused,
+    read_both(first, second)
+}
+
+// The same of the three texts of a program over three files.
+pub enum ThreeInputs {
+    Bytes(usize, usize, usize),
+    Unreadable,
+    Misused,
+}
+
+// Reads the third file, behind texts of m and n bytes.
+fn read_third(m: usize, n: usize, third: &mut [u8]) -> ThreeInputs
+    ensures { λ r. ⌜ WithinThree m n (length (now (third .exit))) r ⌝ }
+{
+    match read_argument(3, third) {
+        Input::Bytes(k) => ThreeInputs::Bytes(m, n, k),
+        Input::Unreadable => ThreeInputs::Unreadable,
+        Input::Misused => ThreeInputs::Misused,
+    }
+}
+
+// Reads the texts of a program over three files: those that its three arguments name. Nothing is read behind one that cannot be read.
+pub fn read_three(first: &mut [u8], second: &mut [u8], third: &mut [u8]) -> ThreeInputs
+    ensures { λ r. ⌜ WithinThree (length (now (first .exit))) (length (now (second .exit))) (length (now (third .exit))) r ⌝ }
+{
+    if os::arg_count() != 4 {
+        return ThreeInputs::Misused;
+    }
+    match read_both(first, second) {
+        TwoInputs::Bytes(m, n) => read_third(m, n, third),
+        TwoInputs::Unreadable => ThreeInputs::Unreadable,
+        TwoInputs::Misused => ThreeInputs::Misused,
     }
 }
 

@@ -18,3 +18,4 @@ pub mod Examples
 pub mod Codes
 pub mod InvertedCodes
 pub mod CodeLists
+pub mod CodePairs

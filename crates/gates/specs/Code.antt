@@ -33,3 +33,13 @@ pub record Code (n k : ℕ) : Type 0 where
 -- each of the numbers is
 abbrev pub AllCodes : ℕ → List ℕ → Type 0
 AllCodes n = Every (Code n)
+
+-- ---- two gates of one target and control
+
+-- their powers, added as a merge adds them
+abbrev pub total : ℕ → ℕ → ℕ
+total a g = (a % 4 + g % 4) % 4
+
+-- the number of a with that power
+abbrev pub joined : ℕ → ℕ → ℕ
+joined a g = a / 4 * 4 + total a g

@@ -1,13 +1,15 @@
 -- One text: it is refused exactly if document 01's table says so, and accepted otherwise, whatever its text number. Assumes nothing.
-use Prim.Native.Nat.{ℕ}
+use Prim.Native.Nat.{ℕ, _≤_}
 use mathlib.Core.Path.{_≡_, refl, sym, ap, _∙_, subst}
 use mathlib.Core.Logic.{_↔_, _⊎_, inl, inr}
 use mathlib.Core.List.{List}
+use native.Mathlib.Omega.{arith}
 use Rattle.gates.specs.declared.Gate.{Gate}
 use Rattle.text.specs.declared.Refusal.{Refusal}
 use Rattle.text.specs.declared.Refusal.the-variants.{Overlong, ShortList}
 use Rattle.text.specs.declared.Head.{Head}
 use Rattle.text.specs.declared.Kind.{Kind}
+use Rattle.text.specs.declared.Kind.the-variants as kind
 use Rattle.text.specs.Refusals.{number-of}
 use Rattle.text.specs.Judging.{Judged, turned-away, accepted, Found, judge}
 use Rattle.habits.specs.Habits.{Judgement, fine, away, Circuit, told, text-judged}
@@ -69,3 +71,13 @@ refuses-or-accepts k s rooms = go (judges 1 k s rooms)
     go : {v : Judgement Circuit} → Judges 1 k s rooms v → ((n : ℕ) × (l : ℕ) × Refuses k s rooms n l) ⊎ ((h : Head) × (c : List Gate) × Accepts k s rooms h c)
     go (refused r l e d) = inl (number-of r, l, d)
     go (passed h c e a) = inr (h, c, a)
+
+-- a circuit text that is accepted, by its number of lines and its circuit
+pub text-accepted : (t : ℕ) {s rooms : List ℕ} {h : Head} {c : List Gate} → Accepts kind.Circuit s rooms h c → text-judged t kind.Circuit s rooms ≡ fine (record { lines = h .lines; gates = c })
+text-accepted t {s} {rooms} {h} a = accepts-exactly-if t kind.Circuit s rooms _ .0 (h, a, refl)
+
+-- a number of the table is not 0
+pub some-number : {k : Kind} {s rooms : List ℕ} {n l : ℕ} → Refuses k s rooms n l → 1 ≤ n
+some-number (overlong h) = omega arith
+some-number (short-list h r) = omega arith
+some-number (failing-line r l z e a b c) = omega (arith, a)

@@ -15,7 +15,7 @@ use Rattle.text.specs.declared.Refusal.{Refusal}
 use Rattle.text.specs.declared.Refusal.the-variants.{ShortAnswer}
 use Rattle.text.specs.Refusals.{number-of}
 use Rattle.habits.specs.Habits.{Judgement, fine, away, Lent, Exit, Answer, cleared, left, refusal, filled, all-filled, success, answered, Says}
-use Rattle.habits.specs.Demands.{One, numbers, textless, TooLong, Numbered}
+use Rattle.habits.specs.Demands.{One, numbers, textless, TooLong, Numbered, Holds}
 use Rattle.habits.proofs.Yields.{away-is, away-fine, Yields, refuses, ends, Regular, of-text, of-none}
 
 -- ---- a job that keeps the habits
@@ -143,6 +143,10 @@ filled-first c l = take-append-seam c _
 pub filled-later : (c l : List Gate) → drop (length c) (filled c l) ≡ replicate (length l - length c) (Not 0)
 unfolding filled
 filled-later c l = drop-append-seam c _
+
+-- both
+pub filled-holds : (c l : List Gate) → Holds c l (filled c l)
+filled-holds c l = record { first = filled-first c l; later = filled-later c l }
 
 -- as many records as were lent
 pub filled-length : (c l : List Gate) → length c ≤ length l → length (filled c l) ≡ length l

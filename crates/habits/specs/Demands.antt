@@ -1,12 +1,13 @@
 -- What is to be shown of a job over several texts, once for all of them: exactly one exit for every entry, and the numbers that it gives with
 -- what each leaves; and when a text is refused, in document 01's words. Assumes nothing.
-use Prim.Native.Nat.{ℕ, _≤_, _<_}
+use Prim.Native.Nat.{ℕ, _-_, _≤_, _<_}
 use mathlib.Core.Path.{_≡_}
 use mathlib.Core.Logic.{_↔_, _≢_}
 use mathlib.Core.Bool.{Bool, true, false}
 use mathlib.Core.List.{List, [], _∷_, map}
-use lib.ListN.{length}
+use lib.ListN.{length, take, drop, replicate}
 use Rattle.gates.specs.declared.Gate.{Gate}
+use Rattle.gates.specs.declared.Gate.the-variants.{Not}
 use Rattle.gates.specs.Every.{Every}
 use Rattle.meaning.specs.Pattern.{has}
 use Rattle.text.specs.declared.Kind.{Kind}
@@ -78,3 +79,18 @@ pub record Numbered {A : Type 0} (own : List ℕ) (texts : ℕ) (v : Judgement A
   pub late : 3 ≤ x .number → x .lent .lists ≡ map cleared (m .lists)
   -- no list and no area changes its length
   pub lengths : (map length (x .lent .lists) ≡ map length (m .lists)) × (length (x .lent .area) ≡ length (m .area))
+
+-- ---- what a job over two gate lists leaves
+
+-- a refusal
+pub record RefusalLeaves (l m : List Gate) (x : Exit) : Type 0 where
+  -- "A refusal returns its number, its line and count 0"
+  pub countless : x .count ≡ 0
+  -- "1 and 2 leave every lent list unchanged, any other refusal leaves `not 0` throughout"
+  pub early : x .number ≤ 2 → x .lent .lists ≡ l ∷ m ∷ []
+  pub late : 3 ≤ x .number → x .lent .lists ≡ replicate (length l) (Not 0) ∷ replicate (length m) (Not 0) ∷ []
+
+-- the list l then holds first the list r, "then `not 0`"
+pub record Holds (r l l′ : List Gate) : Type 0 where
+  pub first : take (length r) l′ ≡ r
+  pub later : drop (length r) l′ ≡ replicate (length l - length r) (Not 0)

@@ -18,8 +18,8 @@ use Rattle.text.specs.Refusals.{number-of}
 use Rattle.text.specs.Text.{circuit-text}
 use Rattle.text.proofs.Accepted.{judge-accepted, same-heads}
 use Rattle.habits.specs.Habits.{fine, away, Circuit, text-judged, Lent, Exit, Answer, filled, all-filled, refusal, success, answered}
-use Rattle.habits.specs.Demands.{Refuses, overlong, short-list, failing-line, Accepts}
-use Rattle.habits.proofs.Refused.{refuses-exactly-if, accepts-exactly-if, refuses-or-accepts}
+use Rattle.habits.specs.Demands.{Refuses, Accepts}
+use Rattle.habits.proofs.Refused.{refuses-exactly-if, text-accepted, refuses-or-accepts, some-number}
 use Rattle.habits.proofs.Says.{says-away, says-fine, filled-first, filled-later}
 use Rattle.jobs.specs.Jobs.{as-text}
 use Rattle.jobs.specs.Habits.{answer, Right}
@@ -28,10 +28,6 @@ use Rattle.joins.specs.Demands.{Read, Joins, Due, by-first, by-second, d
 use Rattle.joins.proofs.PlainJoin.{different-join, over-join, fitting-join}
 use Rattle.joins.proofs.One.{join-numbered}
 
--- a text that is accepted, by its number of lines and its circuit
-pub text-accepted : (u : ℕ) {s rooms : List ℕ} {h : Head} {c : List Gate} → Accepts kind.Circuit s rooms h c → text-judged u kind.Circuit s rooms ≡ fine (record { lines = h .lines; gates = c })
-text-accepted u {s} {rooms} {h} a = accepts-exactly-if u kind.Circuit s rooms _ .0 (h, a, refl)
-
 -- two texts that were read: the plain join of their circuits
 pub read-judged : (s : List ℕ) (l : List Gate) (t : List ℕ) {g h : Head} {c d : List Gate} → Read s l t g c h d → judged s (length l) t ≡ plain-join (record { lines = g .lines; gates = c }) (record { lines = h .lines; gates = d })
 unfolding judged
@@ -39,12 +35,6 @@ read-judged s l t r = rw (text-accepted 1 (r .first), text-accepted 2 (r .second
 
 pub joins-judged : (s : List ℕ) (l : List Gate) (t : List ℕ) {g : Head} {c d : List Gate} → Read s l t g c g d → length c + length d ≤ 4096 → judged s (length l) t ≡ fine (record { lines = g .lines; gates = c ++ d })
 joins-judged s l t {g} {c} {d} r h = read-judged s l t r ∙ fitting-join (record { lines = g .lines; gates = c }) (record { lines = g .lines; gates = d }) refl h
-
--- a number of the table is not 0
-some-number : {u rooms : List ℕ} {n i : ℕ} → Refuses kind.Circuit u rooms n i → 1 ≤ n
-some-number (overlong h) = omega arith
-some-number (short-list h k) = omega arith
-some-number (failing-line r i z e a b c) = omega (arith, a)
 
 -- the first gate over: so many of the second circuit's gates still fit, and one more does not
 pub first-over : (c d : List Gate) → length c ≤ 4096 → 4096 < length c + length d → FirstOver c d (4096 - length c + 2)

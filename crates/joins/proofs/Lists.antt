@@ -21,12 +21,13 @@ use Rattle.text.proofs.Accepted.{accepted-circuit, judge-accepted, text-valid, 
 use Rattle.text.proofs.Written.{judge-written}
 use Rattle.habits.specs.Habits.{Judgement, Circuit, Lent, Exit, refusal, success, Says}
 use Rattle.habits.specs.Demands.{Accepts}
+use Rattle.habits.proofs.Refused.{text-accepted}
 use Rattle.jobs.specs.Jobs.{as-text, takes}
 use Rattle.jobs.specs.Habits.{Right, Keeps}
 use Rattle.inversion.proofs.Reducing.{written-accepts}
 use Rattle.joins.specs.Join.{Join}
 use Rattle.joins.specs.Demands.{Read, Joins, Ran, Lists, AnsweredAs}
-use Rattle.joins.proofs.Demands.{text-accepted, joins-judged, read-joins, joins-short, joins-success, leaves}
+use Rattle.joins.proofs.Demands.{joins-judged, read-joins, joins-short, joins-success, leaves}
 
 module _ {n : ℕ} {c d r : List Gate} (a : Ran n c d r) where
   -- the text of the reduced list of a join shows this list

@@ -6,9 +6,10 @@ use Prim.Native.Nat.{ℕ, zero, suc, _/_, _%_, _≤_, _<_}
 use native.Mathlib.Omega.{arith}
 use lib.ListN.{getD}
 use Rattle.merging.specs.declared.Partner.the-variants.{At, Nowhere}
-use Rattle.merging.specs.Remaining.{picked, kept, remaining, joined}
+use Rattle.gates.specs.Code.{joined}
+use Rattle.merging.specs.Remaining.{picked, kept, remaining}
 use Rattle.merging.specs.Merged.{Found}
-use Rattle.merging.proofs.Numbers.{Clear}
+use Rattle.gates.proofs.CodePairs.{Clear}
 use Rattle.merging.proofs.Meeting.{Meets, meets-at, meets-nowhere}
 
 -- a v and a vp are none, two v are a cn, two NOTs are none

@@ -1,7 +1,6 @@
 -- The laws and theorems of this crate, in reading order.
 pub mod Stacking
 pub mod Remaining
-pub mod Numbers
 pub mod Meeting
 pub mod Finding
 pub mod Stepping

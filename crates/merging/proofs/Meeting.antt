@@ -13,7 +13,7 @@ use Rattle.partners.specs.Partner.{NoPartner}
 use Rattle.partners.proofs.Partners.{Partner, here, later, partner-brought, brought-partner}
 use Rattle.merging.specs.Remaining.{remaining}
 use Rattle.merging.specs.Merged.{PartnerAt}
-use Rattle.merging.proofs.Numbers.{Clear, one-site, same-site, clear-passes, passes-clear}
+use Rattle.gates.proofs.CodePairs.{Clear, one-site, same-site, clear-passes, passes-clear}
 use Rattle.merging.proofs.Remaining.{kept-one, Place, removed, there, place, remaining-nil, remaining-removed, remaining-there}
 
 -- the gate at j has g's target and control, and g passes every gate after it, up to place n

@@ -8,17 +8,17 @@ use lib.ListN.{length, take, drop, getD, set, length-map, length-set}
 use lib.Seq.{take-set-lt, take-set-le, drop-set-lt, set-split, split-at, take-take, getD-take, getD-set-same, getD-set-other, length-take-le}
 use Rattle.gates.specs.declared.Gate.{Gate}
 use Rattle.gates.specs.Circuit.{target, slot, power, Valid, valid-not, valid-powered}
-use Rattle.gates.specs.Code.{code, gate, gates, Code}
+use Rattle.gates.specs.Code.{code, gate, gates, Code, total, joined}
 use Rattle.gates.proofs.CodeLists.{gates-append}
 use Rattle.gates.proofs.Pushing.{merged}
 use Rattle.partners.specs.Partner.{NoPartner}
 use Rattle.partners.specs.Steps.{Leaves, partnered, alone}
 use Rattle.partners.proofs.Partners.{partner-at, partner-same, merges-merged, brought-partner}
-use Rattle.merging.specs.Remaining.{kept, remaining, total, joined}
+use Rattle.merging.specs.Remaining.{kept, remaining}
 use Rattle.merging.specs.Stacks.{Stacked, by-site, by-target, by-control}
 use Rattle.merging.specs.Merged.{PartnerAt, Codes, Stepped}
 use Rattle.merging.proofs.Stacking.{stacks-pushed, stacks-changed}
-use Rattle.merging.proofs.Numbers.{same-site, merged-none, merged-one, code-joined}
+use Rattle.gates.proofs.CodePairs.{same-site, merged-none, merged-one, code-joined}
 use Rattle.merging.proofs.Remaining.{kept-none, kept-one, remaining-cons, remaining-append, remaining-suc}
 
 -- ---- lists

@@ -10,8 +10,7 @@
 ghost use mathlib.Core.Path.{_≡_};
 ghost use Prim.Native.Nat.{_+_, _*_, _/_, _≤_, _<_};
 ghost use lib.ListN.{length, take, getD, set};
-ghost use Rattle.gates.specs.Code.{Code, AllCodes};
-ghost use Rattle.merging.specs.Remaining.{joined};
+ghost use Rattle.gates.specs.Code.{Code, AllCodes, joined};
 ghost use Rattle.merging.specs.Stacks.{Falls, TopGate, Pulled, Stacked};
 ghost use Rattle.merging.specs.Merged.{Found, Codes, Stepped, Kept, Closed, MergedTo};
 

@@ -7,6 +7,7 @@ pub mod Names
 pub mod Jobs
 pub mod Walk_text_list_area
 pub mod Walk_text_list_text_list
+pub mod Walk_text_list_text_text_list
 pub mod Walk_text_list_text_area
 pub mod Own
 pub mod Walk_text_own_list_area

@@ -537,12 +537,13 @@ ended-render (gate (Not t)) = ended-word (bytes "(not ") refl (ended-one t)
 ended-render (gate (Powered p c t)) = ended-word (word p) (clean-word p) (ended-two c t)
 ended-render (mct cs t) = ended-word (bytes "(mct (") refl (ended-spaced cs (ended-word (bytes ") ") refl (ended-one t)))
 
-cut-ended : {l : List ℕ} (s : List ℕ) → Ended l → cut (l ++ s) ≡ l ∷ cut s
+-- a line that is ended by its only byte 10 is cut off whole
+pub cut-ended : {l : List ℕ} (s : List ℕ) → Ended l → cut (l ++ s) ≡ l ∷ cut s
 unfolding cut longer
 cut-ended s end = refl
 cut-ended s (more e h) = rw (e, cut-ended s h)
 
--- a written form is cut off whole
+-- so is a written form
 pub cut-render : (f : Form) (s : List ℕ) → cut (render f ++ s) ≡ render f ∷ cut s
 cut-render f s = cut-ended s (ended-render f)
 

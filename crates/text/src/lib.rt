@@ -15,6 +15,8 @@ pub enum Refusal {
     TooMany,
     ShortAnswer,
     DifferentLines,
+    NotAllowed,
+    OtherEnd,
 }
 
 // The two texts: a cascade of mct gates, and a circuit.
@@ -61,5 +63,7 @@ pub fn number(r: Refusal) -> u8
         Refusal::TooMany => 9,
         Refusal::ShortAnswer => 10,
         Refusal::DifferentLines => 11,
+        Refusal::NotAllowed => 12,
+        Refusal::OtherEnd => 13,
     }
 }

@@ -50,5 +50,18 @@ extern "C" {
         second_list_len: usize,
         outcome: *mut u64,
     );
+    pub fn yilgorza_slip(
+        first: *const u8,
+        first_len: usize,
+        first_list: *mut u16,
+        first_list_len: usize,
+        slip: *const u8,
+        slip_len: usize,
+        second: *const u8,
+        second_len: usize,
+        second_list: *mut u16,
+        second_list_len: usize,
+        outcome: *mut u64,
+    );
     pub fn yilgorza_gate(record: u16, gate: *mut u8);
 }

@@ -1,7 +1,7 @@
 //! Safe calls of the C functions: each is proved for all bytes and all lengths, so
 //! a caller has nothing to see to.
 
-use crate::declared::{yilgorza_compare, yilgorza_gate, yilgorza_join};
+use crate::declared::{yilgorza_compare, yilgorza_gate, yilgorza_join, yilgorza_slip};
 
 pub type Writing =
     unsafe extern "C" fn(*const u8, usize, *mut u16, usize, *mut u8, usize, *mut u64);
@@ -64,6 +64,34 @@ pub fn join(first: &[u8], list: &mut [u16], second: &[u8], answer: &mut [u8]) ->
             second.len(),
             answer.as_mut_ptr(),
             answer.len(),
+            outcome.as_mut_ptr(),
+        );
+    }
+    outcome
+}
+
+/// Number, line, text and count of slip.
+pub fn slip(
+    first: &[u8],
+    first_list: &mut [u16],
+    slip: &[u8],
+    second: &[u8],
+    second_list: &mut [u16],
+) -> [u64; 4] {
+    let mut outcome = [0; 4];
+    // As above.
+    unsafe {
+        yilgorza_slip(
+            first.as_ptr(),
+            first.len(),
+            first_list.as_mut_ptr(),
+            first_list.len(),
+            slip.as_ptr(),
+            slip.len(),
+            second.as_ptr(),
+            second.len(),
+            second_list.as_mut_ptr(),
+            second_list.len(),
             outcome.as_mut_ptr(),
         );
     }

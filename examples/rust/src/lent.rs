@@ -1,5 +1,5 @@
 //! The jobs on memory that the caller lends: a list of at least 4,096 records, for
-//! [`compare`] one for each text, and an answer area. A record is a gate as a number;
+//! [`compare`] and [`slip`] one for each circuit, and an answer area. A record is a gate as a number;
 //! [`gate`] reads it. One call of [`map`] gives the gates and the text, or, with an
 //! area of length 0, the gates alone:
 //!
@@ -82,6 +82,31 @@ pub fn compare(
     const FOUND: [Ordering; 3] = [Ordering::Less, Ordering::Equal, Ordering::Greater];
     let outcome = ffi::compare(first, first_list, second, second_list);
     several_result(outcome).map(|count| FOUND[count])
+}
+
+/// Checks whether the steps of a slip lead from the first circuit to the second, each
+/// with a list of its own. The first list then holds the circuit that the steps ended
+/// at, the other the second circuit, which has the same gates: one less than its text
+/// has lines.
+///
+/// ```
+/// use yilgorza::lent;
+///
+/// let (mut list, mut second_list) = ([0; 4096], [0; 4096]);
+/// let (first, second) = (b"(lines 2)\n(v 0 1)\n(v 0 1)\n", b"(lines 2)\n(cn 0 1)\n");
+///
+/// lent::slip(first, &mut list, b"(merge 1)\n", second, &mut second_list).unwrap();
+/// assert_eq!(list, second_list);
+/// assert_eq!(lent::gate(list[0]), Some(yilgorza::Gate::Cn { control: 0, target: 1 }));
+/// ```
+pub fn slip(
+    first: &[u8],
+    first_list: &mut [u16],
+    slip: &[u8],
+    second: &[u8],
+    second_list: &mut [u16],
+) -> Result<(), SeveralRefusal> {
+    several_result(ffi::slip(first, first_list, slip, second, second_list)).map(|_| ())
 }
 
 /// The gate of a record; none for a number that no gate on 32 lines has.

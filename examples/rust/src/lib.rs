@@ -1,5 +1,6 @@
 //! Maps a cascade of multiple-control Toffoli gates to a list of NCV gates, reduces
-//! such a list, inverts it, joins two of them, and says whether two are one circuit.
+//! such a list, inverts it, joins two of them, says whether two are one circuit, and
+//! checks the steps that are said to lead from one to another.
 //!
 //! ```
 //! let mapped = yilgorza::map(b"(lines 2)\n(mct (0) 1)\n").unwrap();
@@ -11,12 +12,14 @@
 //!
 //! let undo = yilgorza::invert(redrawn).unwrap();
 //! assert!(yilgorza::join(redrawn, &undo.text).unwrap().gates.is_empty());
+//!
+//! assert!(yilgorza::slip(redrawn, b"(merge 1)\n", &mapped.text).is_ok());
 //! ```
 //!
-//! [`map`], [`reduce`], [`invert`], [`join`] and [`compare`] bring the memory that the C
-//! functions of `include/yilgorza.h` are lent; [`lent`] has them on memory of the
-//! caller's. The quote of a cascade is the number of gates that [`map`] gives; [`lent::map`] gives
-//! it without the text too.
+//! [`map`], [`reduce`], [`invert`], [`join`], [`compare`] and [`slip`] bring the memory
+//! that the C functions of `include/yilgorza.h` are lent; [`lent`] has them on memory of
+//! the caller's. The quote of a cascade is the number of gates that [`map`] gives;
+//! [`lent::map`] gives it without the text too.
 
 mod declared;
 mod ffi;
@@ -55,9 +58,13 @@ pub enum Number {
     NoSpare = 8,
     TooMany = 9,
     ShortAnswer = 10,
-    /// From [`join`] alone, once both texts are read and before it counts their gates
-    /// together.
+    /// From [`join`] and [`slip`] alone, once all texts are read; before join counts the
+    /// gates of both together, and before slip takes a step.
     DifferentLines = 11,
+    /// From [`slip`] alone, of the first step that is not allowed on the circuit so far.
+    NotAllowed = 12,
+    /// From [`slip`] alone, once every step is taken: they end at another circuit.
+    OtherEnd = 13,
 }
 
 /// Why a text is turned away, and its line, counted from 1; 0 where the refusal
@@ -80,7 +87,7 @@ pub struct SeveralRefusal {
 
 impl Number {
     /// The numbers in order, from 1.
-    pub const ALL: [Number; 11] = [
+    pub const ALL: [Number; 13] = [
         Number::Overlong,
         Number::ShortList,
         Number::Malformed,
@@ -92,6 +99,8 @@ impl Number {
         Number::TooMany,
         Number::ShortAnswer,
         Number::DifferentLines,
+        Number::NotAllowed,
+        Number::OtherEnd,
     ];
 
     /// The refusal in a customer's words.
@@ -115,10 +124,16 @@ impl Number {
             }
             Number::TooMany => {
                 "too many gates: the 257th of a cascade, an expansion past 4,096, \
-                 or the 4,097th of a circuit or of two that are joined"
+                 or the 4,097th of a circuit or of two that are joined; \
+                 or too many steps: the 4,097th of a slip"
             }
             Number::ShortAnswer => "the service lent an answer area that is too short",
             Number::DifferentLines => "the two circuits do not have the same number of lines",
+            Number::NotAllowed => {
+                "this step of the slip is not allowed: the two gates at its place \
+                 do not pass or merge, or there are no two gates there"
+            }
+            Number::OtherEnd => "the steps of the slip end at another circuit than the second",
         }
     }
 }
@@ -243,6 +258,32 @@ pub fn compare(first: &[u8], second: &[u8]) -> Result<Ordering, SeveralRefusal> 
     let mut first_list = vec![0; LIST_RECORDS];
     let mut second_list = vec![0; LIST_RECORDS];
     lent::compare(first, &mut first_list, second, &mut second_list)
+}
+
+/// Checks a reduction that was made elsewhere: whether the steps of a slip lead from the
+/// first circuit to the second. It is accepted exactly if each step is allowed on the
+/// circuit so far and the last circuit is the second, gate for gate. Then [`compare`]
+/// finds the two equal, so they have one reduced list.
+///
+/// A slip has a step on each line, at most 4,096, and no `(lines n)`; it may be empty.
+/// `(pass i)` exchanges the gates at the places i and i + 1, counted from 1, if neither's
+/// target is the other's control. `(merge i)` puts one gate in place of two with the same
+/// control and target, its power the sum of theirs modulo 4, or none if that is 0; two
+/// NOTs on one line vanish. In a refusal the slip is text 2, the second circuit text 3.
+///
+/// ```
+/// let circuit = b"(lines 3)\n(cn 0 2)\n(cn 1 2)\n(cn 0 2)\n";
+/// let second = b"(lines 3)\n(cn 1 2)\n";
+/// assert!(yilgorza::slip(circuit, b"(pass 2)\n(merge 1)\n", second).is_ok());
+///
+/// let refusal = yilgorza::slip(circuit, b"(merge 1)\n", second).unwrap_err();
+/// assert_eq!(refusal.number, yilgorza::Number::NotAllowed);
+/// assert_eq!((refusal.line, refusal.text), (1, 2));
+/// ```
+pub fn slip(circuit: &[u8], slip: &[u8], second: &[u8]) -> Result<(), SeveralRefusal> {
+    let mut first_list = vec![0; LIST_RECORDS];
+    let mut second_list = vec![0; LIST_RECORDS];
+    lent::slip(circuit, &mut first_list, slip, second, &mut second_list)
 }
 
 type Writing = fn(&[u8], &mut [u16], &mut [u8]) -> Result<lent::Counts, Refusal>;

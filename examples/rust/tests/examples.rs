@@ -1,11 +1,11 @@
 //! The examples of document 01, negated controls, spare lines, kept lines, the order of
-//! circuits, inverses and joins, and what is left in memory that a caller lends.
+//! circuits, inverses, joins and slips, and what is left in memory that a caller lends.
 
 use std::cmp::Ordering;
 
 use yilgorza::lent::{self, Counts};
 use yilgorza::{
-    compare, invert, join, map, reduce, Circuit, Gate, Number, Refusal, SeveralRefusal,
+    compare, invert, join, map, reduce, slip, Circuit, Gate, Number, Refusal, SeveralRefusal,
 };
 
 /// A text of these lines.
@@ -706,7 +706,287 @@ fn refusals_of_joins() {
     assert_eq!(
         join(&on_one(4096), &on_one(1)).unwrap_err().to_string(),
         "(turned-away 9 2 2): the second text: too many gates: the 257th of a cascade, an \
-         expansion past 4,096, or the 4,097th of a circuit or of two that are joined"
+         expansion past 4,096, or the 4,097th of a circuit or of two that are joined; or \
+         too many steps: the 4,097th of a slip"
+    );
+}
+
+/// The Toffoli gate written twice, as it is expanded; a slip; and its reduced list, which
+/// document 01 says has 9 gates. The last gate passes back to the fifth, the two merge to
+/// `cn 0 2`, and this passes to the front.
+const TWICE: &[u8] = include_bytes!("../../texts/twice.circuit");
+const TWICE_SLIP: &[u8] = include_bytes!("../../texts/twice.slip");
+const NINE: &[u8] = include_bytes!("../../texts/nine.circuit");
+
+/// Circuits, steps that are allowed on them, and the circuits that these end at.
+const SLIPS: [(&[&str], &[&str], &[&str]); 15] = [
+    (&["(lines 32)"], &[], &["(lines 32)"]),
+    (&["(lines 1)", "(not 0)"], &[], &["(lines 1)", "(not 0)"]),
+    (
+        &["(lines 1)", "(not 0)", "(not 0)"],
+        &["(merge 1)"],
+        &["(lines 1)"],
+    ),
+    (
+        &["(lines 2)", "(v 0 1)", "(v 0 1)"],
+        &["(merge 1)"],
+        &["(lines 2)", "(cn 0 1)"],
+    ),
+    (
+        &["(lines 2)", "(cn 0 1)", "(v 0 1)"],
+        &["(merge 1)"],
+        &["(lines 2)", "(vp 0 1)"],
+    ),
+    (
+        &["(lines 2)", "(v 0 1)", "(vp 0 1)"],
+        &["(merge 1)"],
+        &["(lines 2)"],
+    ),
+    (
+        &["(lines 2)", "(cn 0 1)", "(cn 0 1)"],
+        &["(merge 1)"],
+        &["(lines 2)"],
+    ),
+    (
+        &["(lines 2)", "(vp 0 1)", "(vp 0 1)"],
+        &["(merge 1)"],
+        &["(lines 2)", "(cn 0 1)"],
+    ),
+    (
+        &["(lines 2)", "(cn 1 0)", "(vp 1 0)"],
+        &["(merge 1)"],
+        &["(lines 2)", "(v 1 0)"],
+    ),
+    (
+        &["(lines 3)", "(cn 0 2)", "(cn 1 2)", "(cn 0 2)"],
+        &["(pass 2)", "(merge 1)"],
+        &["(lines 3)", "(cn 1 2)"],
+    ),
+    (
+        &["(lines 3)", "(cn 0 2)", "(cn 1 2)", "(cn 0 2)"],
+        &["(pass 1)", "(merge 2)"],
+        &["(lines 3)", "(cn 1 2)"],
+    ),
+    (
+        &["(lines 2)", "(cn 0 1)", "(not 1)"],
+        &["(pass 1)"],
+        &["(lines 2)", "(not 1)", "(cn 0 1)"],
+    ),
+    // A pass backwards is a pass; gates that are equal pass too.
+    (
+        &["(lines 2)", "(cn 0 1)", "(not 1)"],
+        &["(pass 1)", "(pass 1)"],
+        &["(lines 2)", "(cn 0 1)", "(not 1)"],
+    ),
+    (
+        &["(lines 2)", "(v 0 1)", "(v 0 1)", "(vp 0 1)"],
+        &["(pass 1)", "(merge 2)"],
+        &["(lines 2)", "(v 0 1)"],
+    ),
+    // Two that vanish bring the next two together.
+    (
+        &["(lines 2)", "(v 0 1)", "(not 0)", "(not 0)", "(v 0 1)"],
+        &["(merge 2)", "(merge 1)"],
+        &["(lines 2)", "(cn 0 1)"],
+    ),
+];
+
+#[test]
+fn slips() {
+    for (circuit, steps, second) in SLIPS {
+        let (circuit, second) = (text(circuit), text(second));
+        assert_eq!(slip(&circuit, &text(steps), &second), Ok(()), "{steps:?}");
+        // What is accepted is linked, and has one reduced list.
+        assert_eq!(compare(&circuit, &second), Ok(Ordering::Equal));
+        assert_eq!(reduce(&circuit), reduce(&second));
+    }
+    assert_eq!(slip(TWICE, TWICE_SLIP, NINE), Ok(()));
+    assert_eq!(reduce(TWICE).unwrap().text, NINE);
+    assert_eq!(
+        map(b"(lines 3)\n(mct (0 1) 2)\n(mct (0 1) 2)\n"),
+        reduce(TWICE)
+    );
+
+    // Slips that follow one another are one, and passes lead back.
+    let end = TWICE_SLIP.iter().rposition(|byte| *byte == b'5').unwrap() + 3;
+    let (merging, passing) = TWICE_SLIP.split_at(end);
+    let between = [
+        "(lines 3)",
+        "(v 1 2)",
+        "(cn 0 1)",
+        "(vp 1 2)",
+        "(cn 0 1)",
+        "(cn 0 2)",
+        "(v 1 2)",
+        "(cn 0 1)",
+        "(vp 1 2)",
+        "(cn 0 1)",
+    ];
+    assert_eq!(slip(TWICE, merging, &text(&between)), Ok(()));
+    assert_eq!(slip(&text(&between), passing, NINE), Ok(()));
+    let back = text(&["(pass 1)", "(pass 2)", "(pass 3)", "(pass 4)"]);
+    assert_eq!(slip(NINE, &back, &text(&between)), Ok(()));
+    let there_and_back = [passing, &back].concat();
+    assert_eq!(
+        slip(&text(&between), &there_and_back, &text(&between)),
+        Ok(())
+    );
+}
+
+#[test]
+fn steps_that_are_not_allowed() {
+    let apart = ["(lines 3)", "(cn 0 1)", "(cn 1 2)", "(cn 0 1)"];
+    let beside = ["(lines 3)", "(cn 0 2)", "(cn 1 2)"];
+    let cases: [(&[&str], &[&str]); 17] = [
+        // Of these no two neighbours pass or merge.
+        (&apart, &["(pass 1)"]),
+        (&apart, &["(pass 2)"]),
+        (&apart, &["(merge 1)"]),
+        (&apart, &["(merge 2)"]),
+        // Place 0, and places without a right neighbour.
+        (&apart, &["(pass 0)"]),
+        (&apart, &["(merge 0)"]),
+        (&apart, &["(pass 3)"]),
+        (&apart, &["(merge 3)"]),
+        (&apart, &["(pass 4)"]),
+        (&apart, &["(merge 9999)"]),
+        (&["(lines 3)"], &["(pass 1)"]),
+        (&["(lines 3)", "(not 0)"], &["(merge 1)"]),
+        // Another control, another target, and a NOT beside a gate on its line.
+        (&beside, &["(pass 1)", "(merge 1)"]),
+        (&["(lines 3)", "(cn 0 1)", "(cn 0 2)"], &["(merge 1)"]),
+        (&["(lines 3)", "(not 1)", "(not 2)"], &["(merge 1)"]),
+        (&["(lines 3)", "(not 1)", "(cn 0 1)"], &["(merge 1)"]),
+        // Allowed once, and after it there are no two gates.
+        (
+            &["(lines 3)", "(v 0 1)", "(v 0 1)"],
+            &["(merge 1)", "(merge 1)"],
+        ),
+    ];
+    for (circuit, steps) in cases {
+        let told = refused_text(Number::NotAllowed, steps.len() as u64, 2);
+        assert_eq!(slip(&text(circuit), &text(steps), b"(lines 3)\n"), told);
+        // The first that is not allowed is told, whatever comes after it.
+        let more = [steps, &["(pass 0)", "(merge 1)"]].concat();
+        assert_eq!(slip(&text(circuit), &text(&more), NINE), told);
+    }
+    assert_eq!(
+        slip(&text(&beside), b"(pass 1)\n(pass 2)\n", b"(lines 3)\n")
+            .unwrap_err()
+            .to_string(),
+        "(turned-away 12 2 2): the second text: this step of the slip is not allowed: the \
+         two gates at its place do not pass or merge, or there are no two gates there"
+    );
+}
+
+#[test]
+fn slips_that_end_elsewhere() {
+    let other: SeveralRefusal = SeveralRefusal {
+        number: Number::OtherEnd,
+        line: 0,
+        text: 0,
+    };
+    for (circuit, steps, second) in SLIPS {
+        let (circuit, steps, second) = (text(circuit), text(steps), text(second));
+        let longer = [&second[..], b"(not 0)\n"].concat();
+        assert_eq!(slip(&circuit, &steps, &longer), Err(other));
+        if circuit != second {
+            assert_eq!(slip(&circuit, b"", &second), Err(other));
+        }
+    }
+    // Linked, but not gate for gate; and a step too few.
+    let drawn = text(&["(lines 3)", "(v 1 2)", "(v 1 2)"]);
+    let once = text(&["(lines 3)", "(cn 1 2)"]);
+    assert_eq!(slip(&once, b"", &drawn), Err(other));
+    assert_eq!(slip(&drawn, b"", &once), Err(other));
+    assert_eq!(
+        slip(TWICE, &TWICE_SLIP[..TWICE_SLIP.len() - 9], NINE),
+        Err(other)
+    );
+    assert_eq!(
+        other.to_string(),
+        "(turned-away 13 0 0): the steps of the slip end at another circuit than the second"
+    );
+}
+
+#[test]
+fn refusals_of_slips() {
+    let good = text(&["(lines 2)", "(cn 0 1)"]);
+    // Forms that a slip has not.
+    for form in [
+        "(pass 01)",
+        "(pass 00)",
+        "(pass 10000)",
+        "(pass -1)",
+        "(pass +1)",
+        "(pass)",
+        "(pass )",
+        "(pass 1 )",
+        "(pass  1)",
+        "( pass 1)",
+        "(pass 1) ",
+        " (pass 1)",
+        "(pass 1 2)",
+        "(Pass 1)",
+        "(merge 01)",
+        "(merge)",
+        "(merge 1",
+        "merge 1",
+        "(merges 1)",
+        "(lines 2)",
+        "(cn 0 1)",
+        "",
+    ] {
+        let malformed = refused_text(Number::Malformed, 1, 2);
+        assert_eq!(slip(&good, &text(&[form]), &good), malformed, "{form}");
+        // The whole slip is judged before any step is taken.
+        let later = text(&["(pass 0)", form]);
+        let malformed = refused_text(Number::Malformed, 2, 2);
+        assert_eq!(slip(&good, &later, &good), malformed, "{form}");
+    }
+    assert_eq!(
+        slip(&good, b"(pass 1)", &good),
+        refused_text(Number::Malformed, 1, 2)
+    );
+    assert_eq!(
+        slip(&good, &[b'('; 60001], &good),
+        refused_text(Number::Overlong, 0, 2)
+    );
+
+    // 4,096 steps are allowed, there and back, and one more is too many; that a line is not
+    // in form is told before.
+    let beside = text(&["(lines 3)", "(cn 0 2)", "(cn 1 2)"]);
+    let many = |steps| text(&vec!["(pass 1)"; steps]);
+    assert_eq!(slip(&beside, &many(4096), &beside), Ok(()));
+    assert_eq!(
+        slip(&beside, &many(4097), &beside),
+        refused_text(Number::TooMany, 4097, 2)
+    );
+    assert_eq!(
+        slip(&beside, &[many(4096), text(&["(pass)"])].concat(), &beside),
+        refused_text(Number::Malformed, 4097, 2)
+    );
+
+    // Number 11 comes before any step, and after what is wrong with a text.
+    let different = refused_text(Number::DifferentLines, 0, 0);
+    assert_eq!(slip(&good, b"(pass 0)\n", &beside), different);
+    assert_eq!(slip(&good, b"", b"(lines 3)\n(cn 0 1)\n"), different);
+    let crossed = text(&["(lines 3)", "(v 1 1)"]);
+    for (texts, line, number) in [
+        ([&crossed[..], b"(pass)\n", b""], (Number::Crossed, 2), 1),
+        ([&good, b"(pass)\n", b""], (Number::Malformed, 1), 2),
+        ([&good, b"(pass 0)\n", &crossed], (Number::Crossed, 2), 3),
+        ([&good, b"(pass 0)\n", b""], (Number::Malformed, 1), 3),
+        ([b"", b"", b""], (Number::Malformed, 1), 1),
+    ] {
+        let [first, steps, second] = texts;
+        let told = refused_text(line.0, line.1, number);
+        assert_eq!(slip(first, steps, second), told);
+    }
+    assert_eq!(
+        slip(&good, b"", b"").unwrap_err().to_string(),
+        "(turned-away 3 1 3): the third text: this line of the text is not written in the \
+         form asked for"
     );
 }
 
@@ -735,6 +1015,9 @@ fn refusals_of_two_texts() {
         assert_eq!(compare(&good, bad), refused_text(*number, *line, 2));
         assert_eq!(join(bad, &good), refused_text(*number, *line, 1));
         assert_eq!(join(&good, bad), refused_text(*number, *line, 2));
+        // The second circuit of a slip is its third text.
+        assert_eq!(slip(bad, b"", &good), refused_text(*number, *line, 1));
+        assert_eq!(slip(&good, b"", bad), refused_text(*number, *line, 3));
         // The first text is judged whole before the second is looked at.
         for (other, _, _) in &cases {
             assert_eq!(compare(bad, other), first);
@@ -974,6 +1257,85 @@ fn lists_lent_to_compare() {
         let (result, a, b) = left(first, first_len, second, second_len);
         assert_eq!(result, refused_text(Number::Malformed, 1, text));
         assert_eq!((a, b), (vec![2; first_len], vec![2; second_len]));
+    }
+}
+
+#[test]
+fn lists_lent_to_slip() {
+    let circuit = text(&["(lines 3)", "(cn 0 2)", "(cn 1 2)", "(cn 0 2)", "(not 0)"]);
+    let second = text(&["(lines 3)", "(cn 1 2)", "(not 0)"]);
+    let steps = text(&["(pass 2)", "(merge 1)"]);
+    let long = vec![b'('; 60001];
+
+    // What two lists of these lengths, full of 7, hold after the call.
+    let left = |texts: [&[u8]; 3], first_len, second_len| {
+        let (mut first_list, mut second_list) = (vec![7; first_len], vec![7; second_len]);
+        let [first, steps, second] = texts;
+        let result = lent::slip(first, &mut first_list, steps, second, &mut second_list);
+        (result, first_list, second_list)
+    };
+
+    let (result, a, b) = left([&circuit, &steps, &second], 4096, 5000);
+    assert_eq!(result, Ok(()));
+    assert_eq!(a[..2], [274, 2]);
+    assert_eq!(a[2..], [2; 4094]);
+    assert_eq!(b[..2], [274, 2]);
+    assert_eq!(b[2..], [2; 4998]);
+    // As read, where there is no step: nothing is reduced.
+    let (result, a, b) = left([&circuit, b"", &circuit], 5000, 4096);
+    assert_eq!(result, Ok(()));
+    assert_eq!(a[..5], [270, 274, 270, 2, 2]);
+    assert_eq!(b, a[..4096]);
+
+    // Refusals 1 and 2 leave both lists as they were, also those of texts read before.
+    for (texts, lens, number, text) in [
+        ([&long[..], &long, &long], (0, 0), Number::Overlong, 1),
+        ([&circuit, &long, &long], (4095, 0), Number::ShortList, 1),
+        ([&circuit, &long, &long], (4096, 0), Number::Overlong, 2),
+        ([&circuit, &steps, &long], (4096, 0), Number::Overlong, 3),
+        ([&circuit, &steps, b""], (5000, 4095), Number::ShortList, 3),
+    ] {
+        let (result, a, b) = left(texts, lens.0, lens.1);
+        assert_eq!(result, refused_text(number, 0, text));
+        assert_eq!((a, b), (vec![7; lens.0], vec![7; lens.1]));
+    }
+
+    // Any other leaves `not 0` in all of both, whatever their lengths.
+    for (texts, lens, (number, line, text)) in [
+        (
+            [&b""[..], &long, &long],
+            (4096, 10),
+            (Number::Malformed, 1, 1),
+        ),
+        (
+            [&circuit, b"\n", &long],
+            (5000, 0),
+            (Number::Malformed, 1, 2),
+        ),
+        (
+            [&circuit, &steps, b""],
+            (4096, 4097),
+            (Number::Malformed, 1, 3),
+        ),
+        (
+            [&circuit, &steps, b"(lines 4)\n"],
+            (4096, 4096),
+            (Number::DifferentLines, 0, 0),
+        ),
+        (
+            [&circuit, b"(pass 4)\n", &second],
+            (4096, 5000),
+            (Number::NotAllowed, 1, 2),
+        ),
+        (
+            [&circuit, &steps, &circuit],
+            (5000, 4096),
+            (Number::OtherEnd, 0, 0),
+        ),
+    ] {
+        let (result, a, b) = left(texts, lens.0, lens.1);
+        assert_eq!(result, refused_text(number, line, text));
+        assert_eq!((a, b), (vec![2; lens.0], vec![2; lens.1]));
     }
 }
 

@@ -1,6 +1,6 @@
 """Maps a cascade of multiple-control Toffoli gates to a list of NCV gates,
-reduces such a list, quotes its gate count, inverts it, joins two of them, and says
-whether two are one circuit.
+reduces such a list, quotes its gate count, inverts it, joins two of them, says whether
+two are one circuit, and checks the steps that are said to lead from one to another.
 
     >>> import yilgorza
     >>> yilgorza.quote("(lines 3)\\n(mct (0 1) 2)\\n").count
@@ -12,6 +12,10 @@ whether two are one circuit.
     b'(lines 2)\\n(not 0)\\n(vp 0 1)\\n'
     >>> yilgorza.join("(lines 2)\\n(v 0 1)\\n(not 0)\\n", undo.text).gates
     ()
+    >>> circuit = "(lines 2)\\n(v 0 1)\\n(v 0 1)\\n"
+    >>> yilgorza.slip(circuit, "(merge 1)\\n", "(lines 2)\\n(cn 0 1)\\n")
+    >>> yilgorza.reduction_slip(circuit)
+    b'(merge 1)\\n'
 
 A text is a str or any bytes-like object. A str stands for its UTF-8 bytes, a lone
 surrogate for its three; no character outside ASCII is in form, so a line that has
@@ -19,10 +23,10 @@ one is turned away as malformed. A file is best read as bytes: opened as a text
 its line ends are changed, and bytes of it may be.
 
 The functions are called by the module's name, yilgorza.map, yilgorza.reduce,
-yilgorza.quote, yilgorza.invert, yilgorza.join and yilgorza.compare: `from yilgorza
-import *` brings the types alone, so that it hides neither the built-in map nor
-functools.reduce. One call of map gives the gates and the text; quote gives the
-gates alone.
+yilgorza.quote, yilgorza.invert, yilgorza.join, yilgorza.compare, yilgorza.slip and
+yilgorza.reduction_slip: `from yilgorza import *` brings the types alone, so that it
+hides neither the built-in map nor functools.reduce. One call of map gives the gates
+and the text; quote gives the gates alone.
 
 Calls may run at the same time in any number of threads: each lends areas of its
 own, and the interpreter runs other threads meanwhile. The shared object is loaded
@@ -35,10 +39,11 @@ from __future__ import annotations
 from dataclasses import dataclass
 from enum import Enum, IntEnum
 from functools import lru_cache
+from itertools import islice
 from pathlib import Path
 from typing import Optional, Tuple, Union
 
-from . import _library
+from . import _library, _slips
 
 __all__ = [
     "Circuit",
@@ -56,6 +61,9 @@ __version__: str = Path(__file__).with_name("VERSION").read_text("ascii").strip(
 # Any object that lends its bytes is taken; these are the ones that types can name.
 Text = Union[str, bytes, bytearray, memoryview]
 
+# The most lines of a slip.
+_SLIP_STEPS = 4096
+
 
 class Number(IntEnum):
     """The numbers of a refusal.
@@ -63,8 +71,9 @@ class Number(IntEnum):
     A line of the text is tried against 3, 4, 5, 6, 8, 7 and 9, in this order: so a
     gate with 16 or more controls that may borrow no line, since it names each of them
     or the line is kept, gets NO_SPARE, and once a line is added TOO_WIDE.
-    DIFFERENT_LINES is join's, once both texts are read and before it counts their
-    gates together.
+    DIFFERENT_LINES is join's and slip's, once all texts are read; before join counts
+    the gates of both together, and before slip takes a step. NOT_ALLOWED, of a step,
+    and OTHER_END, once every step is taken, are slip's.
     """
 
     OVERLONG = 1
@@ -78,6 +87,8 @@ class Number(IntEnum):
     TOO_MANY = 9
     SHORT_ANSWER = 10
     DIFFERENT_LINES = 11
+    NOT_ALLOWED = 12
+    OTHER_END = 13
 
     @property
     def words(self) -> str:
@@ -102,9 +113,13 @@ _WORDS = {
     Number.NO_SPARE: "a gate with three or more controls has no line left that it "
     "may borrow: add a line to the circuit",
     Number.TOO_MANY: "too many gates: the 257th of a cascade, an expansion past "
-    "4,096, or the 4,097th of a circuit or of two that are joined",
+    "4,096, or the 4,097th of a circuit or of two that are joined; or too many steps: "
+    "the 4,097th of a slip",
     Number.SHORT_ANSWER: "the service lent an answer area that is too short",
     Number.DIFFERENT_LINES: "the two circuits do not have the same number of lines",
+    Number.NOT_ALLOWED: "this step of the slip is not allowed: the two gates at its "
+    "place do not pass or merge, or there are no two gates there",
+    Number.OTHER_END: "the steps of the slip end at another circuit than the second",
 }
 
 # The texts of a job over several, by their numbers from 1.
@@ -275,6 +290,52 @@ def compare(first: Text, second: Text) -> Ordering:
     if found > 2:
         raise InternalError(f"yilgorza: there is no order {found}")
     return Ordering(found - 1)
+
+
+def slip(circuit: Text, slip: Text, second: Text) -> None:
+    """Checks a reduction that was made elsewhere: whether the steps of a slip lead from
+    a circuit text to a second one. It returns if the slip is accepted; TurnedAway, with
+    the number of the text, if not: the slip is text 2, the second circuit text 3, and
+    the number is 0 if no one of them is meant.
+
+    A slip has a step on each line, at most 4,096, and no `(lines n)`; it may be empty.
+    `(pass i)` exchanges the gates at the places i and i + 1, counted from 1, if
+    neither's target is the other's control. `(merge i)` puts one gate in place of two
+    with the same control and target, its power the sum of theirs modulo 4, or none if
+    that is 0; two NOTs on one line vanish. The slip is accepted exactly if each step is
+    allowed on the circuit so far and the last circuit is the second, gate for gate.
+    Then compare finds the two equal, so they have one reduced list.
+    """
+    lists = _library.GateList(), _library.GateList()
+    number, line, text, count = _library.run(
+        "slip", _bytes(circuit), lists[0], _bytes(slip), _bytes(second), lists[1]
+    )
+    _accept(number, line, text)
+    if count:
+        raise InternalError(f"yilgorza: an accepted slip has no count {count}")
+
+
+def reduction_slip(circuit: Text) -> bytes:
+    """A slip that leads from a circuit text to the text that reduce gives for it;
+    TurnedAway if the circuit is refused, ValueError if the slip would have more than
+    4,096 lines.
+
+    It is an example of the format for those who write slips, in plain Python, and not
+    the shortest slip: each gate is brought back to its partner and merged with it, and
+    then the gates are brought into dictionary order. The job slip accepts what it
+    writes as it accepts any other slip, by its steps.
+    """
+    text = _bytes(circuit)
+    reduced = _slips.read(reduce(text).text)
+    gates = _slips.read(text)
+    steps = list(islice(_slips.reduce(gates), _SLIP_STEPS + 1))
+    if len(steps) > _SLIP_STEPS:
+        raise ValueError(
+            f"the slip would have more than {_SLIP_STEPS:,} lines; no slip has more"
+        )
+    if gates != reduced:
+        raise InternalError("yilgorza: the steps do not end at the reduced list")
+    return _slips.write(steps)
 
 
 def _written(job: str, text: Text) -> Circuit:

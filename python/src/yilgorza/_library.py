@@ -32,6 +32,7 @@ _FUNCTIONS: Dict[str, List[Any]] = {
     "invert": _TEXT + _LIST + _ANSWER + _OUTCOME,
     "join": _TEXT + _LIST + _TEXT + _ANSWER + _OUTCOME,
     "compare": _TEXT + _LIST + _TEXT + _LIST + _OUTCOME,
+    "slip": _TEXT + _LIST + _TEXT + _TEXT + _LIST + _OUTCOME,
     "gate": [ctypes.c_uint16, ctypes.POINTER(ctypes.c_uint8)],
 }
 

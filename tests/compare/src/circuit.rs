@@ -175,7 +175,7 @@ pub fn reduced(gates: &[Gate]) -> Vec<Gate> {
 
 /// The place of a gate, that of the first later one that it merges with after
 /// passing all between, and what they become.
-fn partner(gates: &[Gate], at: usize) -> Option<(usize, usize, Vec<Gate>)> {
+pub fn partner(gates: &[Gate], at: usize) -> Option<(usize, usize, Vec<Gate>)> {
     for (second, &other) in gates.iter().enumerate().skip(at + 1) {
         if let Some(merged) = merge(gates[at], other) {
             return Some((at, second, merged));

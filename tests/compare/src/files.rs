@@ -8,6 +8,7 @@ use crate::circuit;
 use crate::programs::{Written, PROGRAMS};
 use crate::random::Random;
 use crate::report::{shown, Report};
+use crate::steps;
 use crate::texts;
 use peer::files::{self, Pairing, LONGEST_NAME};
 use peer::Program;
@@ -57,18 +58,22 @@ impl Files<'_> {
     fn all(&mut self) -> std::io::Result<()> {
         let mut compared = pairs(&mut self.random);
         for [first, second] in &compared {
-            self.texts(Pairing::Compare, [first, second])?;
-            self.texts(Pairing::Compare, [second, first])?;
+            self.two_texts(Pairing::Compare, [first, second])?;
+            self.two_texts(Pairing::Compare, [second, first])?;
         }
         compared.extend(joins(&mut self.random));
         for [first, second] in &compared {
-            self.texts(Pairing::Join, [first, second])?;
-            self.texts(Pairing::Join, [second, first])?;
+            self.two_texts(Pairing::Join, [first, second])?;
+            self.two_texts(Pairing::Join, [second, first])?;
+        }
+        for [first, slip, second] in &slips(&mut self.random) {
+            self.texts("slip", [first, slip, second], files::three_texts)?;
         }
         let names = made_files()?;
         for program in [Pairing::Compare, Pairing::Join] {
             self.two_names(program, &names);
         }
+        self.three_names(&names);
         for (program, name) in PROGRAMS {
             self.one_name(program, name, &names)?;
         }
@@ -78,9 +83,18 @@ impl Files<'_> {
     /// Tells how often each answer was expected; one that never was has failed.
     fn tell(&mut self) {
         println!("programs: expected so often: {:?}", self.expected);
-        let own: [(&str, &[&str]); 6] = [
+        let own: [(&str, &[&str]); 7] = [
             ("compare", &["less", "equal", "greater"]),
             ("join", &["circuit", "turned-away 11 0"]),
+            (
+                "slip",
+                &[
+                    "accepted",
+                    "turned-away 11 0",
+                    "turned-away 12 2",
+                    "turned-away 13 0",
+                ],
+            ),
             ("map", &["circuit"]),
             ("reduce", &["circuit"]),
             ("invert", &["circuit"]),
@@ -98,7 +112,9 @@ impl Files<'_> {
                         .map(|program| format!("{program} turned-away {number} {text}")),
                 );
             }
+            due.extend([1, 3].map(|text| format!("slip turned-away {number} {text}")));
         }
+        due.extend([1, 3, 9].map(|number| format!("slip turned-away {number} 2")));
         for answer in due {
             self.report.case(self.expected.contains_key(&answer), || {
                 format!("{answer} was never expected")
@@ -106,23 +122,32 @@ impl Files<'_> {
         }
     }
 
-    /// Two texts in two files. Every fourth time one of them comes in pieces by
+    fn two_texts(&mut self, program: Pairing, texts: [&[u8]; 2]) -> std::io::Result<()> {
+        let expected = |names: &[OsString]| files::two_texts(program, names);
+        self.texts(program.name(), texts, expected)
+    }
+
+    /// Texts in files of their own. Every fourth time one of them comes in pieces by
     /// standard input, which has a name too.
-    fn texts(&mut self, program: Pairing, texts: [&[u8]; 2]) -> std::io::Result<()> {
-        let names = ["first", "second"].map(OsString::from);
+    fn texts<const TEXTS: usize>(
+        &mut self,
+        program: &str,
+        texts: [&[u8]; TEXTS],
+        expected: impl Fn(&[OsString]) -> files::Written,
+    ) -> std::io::Result<()> {
+        let names: [OsString; TEXTS] = std::array::from_fn(|at| format!("text {at}").into());
         for (name, text) in names.iter().zip(texts) {
             fs::write(name, text)?;
         }
         let mut given = names.clone();
         let mut piped: &[u8] = b"";
         if self.random.one_in(4) {
-            let which = self.random.below(2);
+            let which = self.random.below(TEXTS);
             given[which] = OsString::from("/dev/stdin");
             piped = texts[which];
         }
         let piece = self.random.between(1, 1 + piped.len() / 3);
-        let expected = files::two_texts(program, &names);
-        self.case(program.name(), expected, &given, (piped, piece), || {
+        self.case(program, expected(&names), &given, (piped, piece), || {
             texts.map(shown).join(" and ")
         });
         Ok(())
@@ -163,7 +188,7 @@ impl Files<'_> {
     fn two_names(&mut self, program: Pairing, all: &[OsString]) {
         for first in all {
             for second in all {
-                self.arguments(program, &[first, second]);
+                self.two_arguments(program, &[first, second]);
             }
         }
         let [less, more] = ["less", "more"].map(OsString::from);
@@ -174,14 +199,53 @@ impl Files<'_> {
             &[&less, &more, &OsString::new()],
             &[&less, &more, &less, &more],
         ] {
-            self.arguments(program, few_or_many);
+            self.two_arguments(program, few_or_many);
         }
     }
 
-    fn arguments(&mut self, program: Pairing, names: &[&OsString]) {
+    fn two_arguments(&mut self, program: Pairing, names: &[&OsString]) {
+        let expected = |names: &[OsString]| files::two_texts(program, names);
+        self.arguments(program.name(), names, expected);
+    }
+
+    /// Each of these names as each of the three, beside good ones, and other numbers of
+    /// arguments.
+    fn three_names(&mut self, all: &[OsString]) {
+        let [less, more, no_steps] = ["less", "more", "no steps"].map(OsString::from);
+        for name in all {
+            for given in [
+                [name, &no_steps, &less],
+                [&less, name, &less],
+                [&less, &no_steps, name],
+                [name, name, name],
+            ] {
+                self.arguments("slip", &given, files::three_texts);
+            }
+        }
+        let nothing = OsString::new();
+        for given in [
+            &[][..],
+            &[&less],
+            &[&less, &no_steps],
+            &[&less, &less],
+            &[&more, &no_steps, &more],
+            &[&less, &no_steps, &less, &less],
+            &[&less, &no_steps, &less, &nothing],
+            &[&nothing, &less, &no_steps, &less],
+            &[&less, &no_steps, &less, &no_steps, &less],
+        ] {
+            self.arguments("slip", given, files::three_texts);
+        }
+    }
+
+    fn arguments(
+        &mut self,
+        program: &str,
+        names: &[&OsString],
+        expected: impl Fn(&[OsString]) -> files::Written,
+    ) {
         let names: Vec<OsString> = names.iter().map(|&name| name.clone()).collect();
-        let expected = files::two_texts(program, &names);
-        self.case(program.name(), expected, &names, (b"", 1), || {
+        self.case(program, expected(&names), &names, (b"", 1), || {
             shown_names(&names)
         });
     }
@@ -227,6 +291,7 @@ fn shown_names(names: &[OsString]) -> String {
 fn made_files() -> std::io::Result<Vec<OsString>> {
     fs::write("less", "(lines 2)\n")?;
     fs::write("more", "(lines 2)\n(not 0)\n")?;
+    fs::write("no steps", "")?;
     fs::write("cascade", "(lines 2)\n(mct (0) 1)\n")?;
     fs::write("malformed", "(lines 2)")?;
     fs::write("overlong", [b'x'; 60_001])?;
@@ -393,4 +458,75 @@ fn joins(random: &mut Random) -> Vec<[Vec<u8>; 2]> {
         ]);
     }
     pairs
+}
+
+/// A circuit, a slip and a second circuit of all kinds: chains, the same with one of the
+/// three texts changed, and what is at the limits.
+fn slips(random: &mut Random) -> Vec<[Vec<u8>; 3]> {
+    let mut triples = Vec::new();
+    for case in 0..120 {
+        let lines = texts::some_lines(random);
+        let most = if case % 10 == 0 { 400 } else { 16 };
+        let count = random.below(most + 1);
+        let gates = texts::gates(random, lines, count);
+        let chain = match case % 3 {
+            0 => steps::forwards(random, &gates, most, 2),
+            1 => steps::backwards(random, lines, &gates, most, 4_096),
+            _ => steps::reducing(&gates[..gates.len().min(60)]),
+        };
+        let good = [
+            circuit::text(lines, &chain.first),
+            steps::text(&chain.steps),
+            circuit::text(lines, &chain.last),
+        ];
+        triples.push(good.clone());
+        let mut changed = good.clone();
+        let which = case / 3 % 3;
+        changed[which] = texts::damaged(random, &good[which]);
+        triples.push(changed);
+        // Another second circuit, other lines, a step more or fewer.
+        let mut changed = good.clone();
+        match case % 4 {
+            0 => changed[2] = circuit::text(lines, &chain.first),
+            1 => changed[2] = circuit::text(lines % 32 + 1, &[]),
+            2 => changed[1].extend(b"(merge 0)\n"),
+            _ => changed[1] = steps::text(chain.steps.get(1..).unwrap_or_default()),
+        }
+        triples.push(changed);
+    }
+    let good = b"(lines 3)\n(cn 0 2)\n(cn 1 2)\n(cn 0 2)\n".to_vec();
+    let slip = b"(pass 1)\n(merge 2)\n".to_vec();
+    let end = b"(lines 3)\n(cn 1 2)\n".to_vec();
+    triples.push([good.clone(), slip.clone(), end.clone()]);
+    for bad in [
+        b"".to_vec(),
+        b"(lines 33)\n".to_vec(),
+        b"(lines 3)\n(cn 0 1)\n(not 3)\n".to_vec(),
+        b"(lines 3)\n(v 1 1)\n".to_vec(),
+        b"(lines 3)\n(cn 1 2)".to_vec(),
+        texts::circuit_of(random, 4_097),
+        texts::of_size(random, 60_000),
+        texts::of_size(random, 60_001),
+        texts::of_size(random, 1_000_000),
+    ] {
+        triples.push([bad.clone(), slip.clone(), end.clone()]);
+        triples.push([good.clone(), slip.clone(), bad.clone()]);
+        triples.push([good.clone(), bad.clone(), end.clone()]);
+        triples.push([bad.clone(), bad.clone(), bad]);
+    }
+    for bad in [
+        "(pass 0)\n",
+        "(merge 9999)\n",
+        "(pass 10000)\n",
+        "(pass 1)",
+        "\n",
+    ] {
+        triples.push([good.clone(), bad.into(), end.clone()]);
+    }
+    let nots = circuit::text(1, &vec![circuit::Gate::Not { target: 0 }; 4_096]);
+    for count in [4_095, 4_096, 4_097] {
+        let slip = steps::text(&vec![steps::passing(4_095); count]);
+        triples.push([nots.clone(), slip, nots.clone()]);
+    }
+    triples
 }

@@ -10,7 +10,7 @@ use crate::built::{self, Drawn};
 use crate::chain::{redrawn, STEPS};
 use crate::circuit::{self, Gate};
 use crate::random::Random;
-use crate::report::{shown, Report};
+use crate::report::{shown, Parts, Report};
 use crate::subject::{call, holds, join, Area};
 use crate::texts;
 use peer::joining;
@@ -29,8 +29,6 @@ const FEWEST_PAIRS: u64 = 80_000;
 /// gates that are accepted.
 const FEWEST_OVER: u64 = 5_500;
 const FEWEST_FULL: u64 = 2_400;
-
-type Part = fn(&mut Joins);
 
 struct Joins {
     report: Report,
@@ -72,7 +70,7 @@ pub fn run() -> Report {
         full: 0,
         steps: [0; STEPS.len()],
     };
-    let parts: [(&str, Part); 15] = [
+    joins.run_parts(&[
         ("joins of known lists", Joins::known),
         ("random circuits", Joins::random),
         ("a circuit and its inverse", Joins::inverses),
@@ -88,30 +86,22 @@ pub fn run() -> Report {
         ("around 4,096 gates together", Joins::around_the_most),
         ("long circuits and their inverses", Joins::long_inverses),
         ("long circuits", Joins::long),
-    ];
-    for (name, part) in parts {
-        let (pairs_before, cases_before) = (joins.pairs, joins.cases());
-        let start = std::time::Instant::now();
-        part(&mut joins);
-        let cases = joins.cases() - cases_before;
-        println!(
-            "joins: {name}: {} pairs, {cases} cases, {:.1} s",
-            joins.pairs - pairs_before,
-            start.elapsed().as_secs_f64()
-        );
-        joins
-            .report
-            .case(cases > 0, || format!("{name}: no case ran"));
-    }
+    ]);
     joins.tell();
     joins.report
 }
 
-impl Joins {
-    fn cases(&self) -> u64 {
-        self.report.passed + self.report.failed
+impl Parts for Joins {
+    fn report(&mut self) -> &mut Report {
+        &mut self.report
     }
 
+    fn given(&self) -> Option<(u64, &'static str)> {
+        Some((self.pairs, "pairs"))
+    }
+}
+
+impl Joins {
     /// Tells how often everything came up; what never did, and a number that a text
     /// can't have but had, has failed.
     fn tell(&mut self) {

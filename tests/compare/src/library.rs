@@ -12,7 +12,7 @@ use crate::kept;
 use crate::known::{self, Known};
 use crate::negated;
 use crate::random::Random;
-use crate::report::{shown, Report};
+use crate::report::{shown, Parts, Report};
 use crate::rules::Refusal;
 use crate::spares::{self, Size};
 use crate::subject::{call, holds, read_record, Area};
@@ -77,8 +77,6 @@ const OTHER_AREAS: [(usize, usize); 8] = [
 /// An answer area that has room for every answer, and one that has more.
 const LONGEST: [usize; 2] = [45_067, 50_000];
 
-type Part = fn(&mut Library);
-
 struct Library {
     report: Report,
     random: Random,
@@ -102,7 +100,7 @@ pub fn run() -> Report {
         numbers: [[0; 11]; CALLS.len()],
         signed: [0; 11],
     };
-    let parts: [(&str, Part); 19] = [
+    library.run_parts(&[
         ("answer areas of every length", Library::every_area),
         ("every single change of small texts", Library::every_change),
         ("valid texts", Library::valid),
@@ -122,22 +120,19 @@ pub fn run() -> Report {
         ("long circuits of known lists", Library::built),
         ("long circuits redrawn by passes", Library::redrawn),
         ("records", Library::records),
-    ];
-    for (name, part) in parts {
-        let before = library.report.passed + library.report.failed;
-        let start = std::time::Instant::now();
-        part(&mut library);
-        let cases = library.report.passed + library.report.failed - before;
-        println!(
-            "library: {name}: {cases} cases, {:.1} s",
-            start.elapsed().as_secs_f64()
-        );
-        library
-            .report
-            .case(cases > 0, || format!("{name}: no case ran"));
-    }
+    ]);
     library.tell();
     library.report
+}
+
+impl Parts for Library {
+    fn report(&mut self) -> &mut Report {
+        &mut self.report
+    }
+
+    fn given(&self) -> Option<(u64, &'static str)> {
+        None
+    }
 }
 
 impl Library {

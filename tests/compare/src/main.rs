@@ -3,13 +3,14 @@
 //! `compare library`     the C functions over one text, on many thousands
 //! `compare pairs`       the C function that compares two, on many thousands of pairs
 //! `compare joins`       the C function that joins two, on many thousands of pairs
+//! `compare slips`       the C function that follows a slip, on many thousands of triples
 //! `compare programs DIRECTORY SCRATCH`
-//!                       the programs map, reduce, invert, quote, compare and
-//!                       join in DIRECTORY, with files in SCRATCH
+//!                       the programs map, reduce, invert, quote, compare, join
+//!                       and slip in DIRECTORY, with files in SCRATCH
 //! `compare small`       reduce and invert on all small circuits, map on small
 //!                       cascades with negated controls and with kept lines, and
 //!                       compare and join on all pairs of smaller circuits, against
-//!                       their whole link classes
+//!                       their whole link classes; every step of a slip on them
 //!
 //! Each part prints what it ran; its last line is `N passed, M failed`. The
 //! exit status is 0 only if N is not 0 and M is 0.
@@ -31,8 +32,10 @@ mod programs;
 mod random;
 mod report;
 mod rules;
+mod slips;
 mod small;
 mod spares;
+mod steps;
 mod subject;
 mod texts;
 mod wide;
@@ -44,11 +47,12 @@ fn main() -> std::process::ExitCode {
         ["library"] => library::run(),
         ["pairs"] => pairs::run(),
         ["joins"] => joins::run(),
+        ["slips"] => slips::run(),
         ["programs", directory, scratch] => programs::run(directory.as_ref(), scratch.as_ref()),
         ["small"] => small::run(),
         _ => {
             eprintln!(
-                "usage: compare library | pairs | joins | programs DIRECTORY SCRATCH | small"
+                "usage: compare library | pairs | joins | slips | programs DIRECTORY SCRATCH | small"
             );
             return std::process::ExitCode::from(2);
         }

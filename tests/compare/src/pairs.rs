@@ -7,7 +7,7 @@
 use crate::chain::{redrawn, STEPS};
 use crate::circuit::{self, Gate};
 use crate::random::Random;
-use crate::report::{shown, Report};
+use crate::report::{shown, Parts, Report};
 use crate::subject::{compare, Area};
 use crate::texts;
 use peer::comparison;
@@ -30,8 +30,6 @@ const FEWEST_PAIRS: u64 = 60_000;
 const FEWEST_SIGNED: u64 = 2_000;
 const REDRAWINGS: u64 = 40_000;
 const TRIPLES: usize = 6_000;
-
-type Part = fn(&mut Pairs);
 
 struct Pairs {
     report: Report,
@@ -64,7 +62,7 @@ pub fn run() -> Report {
         numbers: [[0; 10]; 2],
         steps: [0; STEPS.len()],
     };
-    let parts: [(&str, Part); 11] = [
+    pairs.run_parts(&[
         ("random circuits", Pairs::random),
         ("redrawings", Pairs::redrawings),
         ("one gate apart", Pairs::one_gate_apart),
@@ -76,30 +74,22 @@ pub fn run() -> Report {
         ("limits", Pairs::limits),
         ("long circuits", Pairs::long),
         ("triples, by the library alone", Pairs::triples),
-    ];
-    for (name, part) in parts {
-        let (pairs_before, cases_before) = (pairs.pairs, pairs.cases());
-        let start = std::time::Instant::now();
-        part(&mut pairs);
-        let cases = pairs.cases() - cases_before;
-        println!(
-            "pairs: {name}: {} pairs, {cases} cases, {:.1} s",
-            pairs.pairs - pairs_before,
-            start.elapsed().as_secs_f64()
-        );
-        pairs
-            .report
-            .case(cases > 0, || format!("{name}: no case ran"));
-    }
+    ]);
     pairs.tell();
     pairs.report
 }
 
-impl Pairs {
-    fn cases(&self) -> u64 {
-        self.report.passed + self.report.failed
+impl Parts for Pairs {
+    fn report(&mut self) -> &mut Report {
+        &mut self.report
     }
 
+    fn given(&self) -> Option<(u64, &'static str)> {
+        Some((self.pairs, "pairs"))
+    }
+}
+
+impl Pairs {
     /// Tells how often everything came up; what never did has failed.
     fn tell(&mut self) {
         let mut all = Vec::new();

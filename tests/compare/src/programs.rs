@@ -1,6 +1,6 @@
 //! The programs against the peer: those over one text from standard input to
 //! standard output, nothing on standard error, exit status 0; these and those over
-//! two texts through files (see `files`). Long circuits whose list the definitions
+//! two texts and three through files (see `files`). Long circuits whose list the definitions
 //! give (see `built`), and what order 4 says of negated controls (see `negated`),
 //! are asserted without the peer; what order 5 says of spares (see `spares`), order 6 of
 //! rules 7 and 8 (see `wide`), and order 8 of kept lines (see `kept`), beside it.

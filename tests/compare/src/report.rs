@@ -1,6 +1,8 @@
-//! Counts of passed and failed cases; the first failures are shown.
+//! Counts of passed and failed cases; the first failures are shown. Parts that are run
+//! one after the other.
 
 use std::process::ExitCode;
+use std::time::Instant;
 
 const MOST_SHOWN: u64 = 10;
 
@@ -31,12 +33,48 @@ impl Report {
         }
     }
 
+    fn cases(&self) -> u64 {
+        self.passed + self.failed
+    }
+
     pub fn finish(self) -> ExitCode {
         println!("{} passed, {} failed", self.passed, self.failed);
         if self.passed > 0 && self.failed == 0 {
             ExitCode::SUCCESS
         } else {
             ExitCode::FAILURE
+        }
+    }
+}
+
+/// What parts of a comparison are run on.
+pub trait Parts: Sized {
+    fn report(&mut self) -> &mut Report;
+
+    /// How many pairs, or others, were given so far, and what they are called; nothing
+    /// where cases alone are counted.
+    fn given(&self) -> Option<(u64, &'static str)>;
+
+    /// Runs the parts and tells what each of them did; one in which no case ran has
+    /// failed.
+    fn run_parts(&mut self, parts: &[(&str, fn(&mut Self))]) {
+        for &(name, part) in parts {
+            let given = self.given();
+            let cases = self.report().cases();
+            let start = Instant::now();
+            part(self);
+            let seconds = start.elapsed().as_secs_f64();
+            let given = given.zip(self.given());
+            let more = given.map_or(String::new(), |((before, what), (now, _))| {
+                format!("{} {what}, ", now - before)
+            });
+            let report = self.report();
+            let cases = report.cases() - cases;
+            println!(
+                "{}: {name}: {more}{cases} cases, {seconds:.1} s",
+                report.part
+            );
+            report.case(cases > 0, || format!("{name}: no case ran"));
         }
     }
 }

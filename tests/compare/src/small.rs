@@ -1,6 +1,7 @@
 //! Reduce and invert on all small circuits, map on small cascades with negated
 //! controls and with kept lines, and compare and join on all pairs of smaller circuits,
-//! against their whole link classes; and small circuits with a minus sign or a keep line,
+//! against their whole link classes; every step of a slip at every place of small circuits,
+//! and the circuits that slips lead to; and small circuits with a minus sign or a keep line,
 //! which are malformed.
 //!
 //! For some lines and some length L, all circuits of at most L gates are nodes,
@@ -28,11 +29,12 @@ use crate::expansion;
 use crate::report::{shown, Report};
 use crate::rules::{self, Row};
 use crate::spares;
-use crate::subject::{call, compare, holds, join, Area};
+use crate::steps::{self, merging, passing, Due, Step};
+use crate::subject::{call, compare, holds, join, slip, Area};
 use crate::texts::{cascade_text, Control, Mct};
 use peer::Job;
 use std::cmp::Ordering;
-use std::collections::{BTreeMap, HashSet};
+use std::collections::{BTreeMap, HashMap, HashSet};
 
 /// Lines, C and L.
 const SPACES: [(u8, usize, usize); 4] = [(1, 12, 14), (2, 6, 7), (3, 4, 5), (4, 3, 4)];
@@ -48,6 +50,15 @@ const FEWEST_SIGNED: [usize; 2] = [1_000, 300];
 const KEPT: [usize; 2] = [20 * 15 + 60 * 47, 20 * 16 + 60 * 16];
 /// Circuits with a keep line.
 const FEWEST_KEPT: usize = 300;
+/// Lines and gates, at most so many, of circuits with every step at every place.
+const STEPPED: [(u8, usize); 5] = [(1, 12), (2, 4), (3, 3), (4, 2), (5, 2)];
+/// How often, at least, a pass and a merge are allowed, and are not.
+const FEWEST_STEPS: [[usize; 2]; 2] = [[15_000, 35_000], [4_000, 50_000]];
+/// The same, and the steps of a slip, of circuits with every slip and every second circuit.
+const SLIPPED: [(u8, usize, usize); 2] = [(1, 4, 3), (2, 2, 2)];
+/// Lines and gates of circuits with a slip to every circuit that steps lead to.
+const REACHED: [(u8, usize); 3] = [(1, 12), (2, 4), (3, 3)];
+const FEWEST_REACHED: usize = 50_000;
 
 pub fn run() -> Report {
     let mut report = Report::new("small");
@@ -55,6 +66,9 @@ pub fn run() -> Report {
     all_pairs(&mut report);
     cascades(&mut report);
     kept_cascades(&mut report);
+    every_step(&mut report);
+    every_slip(&mut report);
+    every_circuit_reached(&mut report);
     signed_circuits(&mut report);
     kept_circuits(&mut report);
     report
@@ -367,6 +381,166 @@ fn forward(start: &[Gate]) -> HashSet<Vec<Gate>> {
                 }
             }
         }
+    }
+    known
+}
+
+/// A slip between two circuits on so many lines, with what is due; whether it is accepted.
+fn slipped(
+    report: &mut Report,
+    lines: u8,
+    [first, second]: [&[Gate]; 2],
+    taken: &[Step],
+    due: Due,
+) -> bool {
+    let texts = [text(lines, first), steps::text(taken), text(lines, second)];
+    let areas = texts.each_ref().map(|text| Area::holding(text, 0));
+    let mut lists = [0, 1].map(|_| Area::filled(4_096, 0xffff));
+    let outcome = slip(areas.each_ref(), lists.each_mut());
+    let left = if due.0 == 0 {
+        records(second)
+    } else {
+        Vec::new()
+    };
+    let passed = (outcome.number, outcome.line, outcome.text) == due
+        && outcome.count == 0
+        && lists.iter().all(|list| holds(list, &left));
+    report.case(passed, || {
+        format!(
+            "slip: {} give {outcome:?}, expected {due:?}, or other lists",
+            texts.each_ref().map(|text| shown(text)).join(" and ")
+        )
+    });
+    outcome.number == 0
+}
+
+/// Every step at every place of all small circuits, and at place 0 and two after the last:
+/// allowed exactly if there are two neighbours that pass, or merge. Where it is allowed
+/// it ends at that circuit and no other that is tried.
+fn every_step(report: &mut Report) {
+    let mut counts = [[0; 2]; 2];
+    for (lines, most) in STEPPED {
+        let space = Space::new(lines);
+        for node in 0..space.circuits_up_to(most) {
+            let gates = space.gates(node);
+            for place in 0..=gates.len() + 2 {
+                for (word, step) in [passing(place), merging(place)].into_iter().enumerate() {
+                    let Some(next) = steps::taken(&gates, step) else {
+                        counts[word][1] += 1;
+                        slipped(report, lines, [&gates, &gates], &[step], (12, 1, 2));
+                        continue;
+                    };
+                    counts[word][0] += 1;
+                    slipped(report, lines, [&gates, &next], &[step], (0, 0, 0));
+                    let two = [&gates, &next[..next.len().saturating_sub(1)]];
+                    for other in two.into_iter().filter(|&other| *other != next) {
+                        slipped(report, lines, [&gates, other], &[step], (13, 0, 0));
+                    }
+                }
+            }
+        }
+    }
+    println!("small: {counts:?} passes and merges that are allowed and that are not");
+    for (times, fewest) in counts.iter().zip(FEWEST_STEPS) {
+        report.case(times[0] >= fewest[0] && times[1] >= fewest[1], || {
+            format!("only {times:?} steps allowed and not")
+        });
+    }
+}
+
+/// All slips of few steps between all small circuits. The circuits that they lead to are
+/// exactly those of the forward steps.
+fn every_slip(report: &mut Report) {
+    for (lines, most, longest) in SLIPPED {
+        let before = report.passed + report.failed;
+        let space = Space::new(lines);
+        let circuits: Vec<Vec<Gate>> = (0..space.circuits_up_to(most))
+            .map(|node| space.gates(node))
+            .collect();
+        let every_step = (0..=most).flat_map(|place| [passing(place), merging(place)]);
+        let every_step: Vec<Step> = every_step.collect();
+        let mut slips: Vec<Vec<Step>> = vec![Vec::new()];
+        let mut shorter = slips.clone();
+        for _ in 0..longest {
+            shorter = shorter
+                .iter()
+                .flat_map(|slip| every_step.iter().map(|&step| [&slip[..], &[step]].concat()))
+                .collect();
+            slips.extend(shorter.clone());
+        }
+        for first in &circuits {
+            let mut reached = HashSet::new();
+            for slip in &slips {
+                for second in &circuits {
+                    let due = steps::due(first, slip, second);
+                    if slipped(report, lines, [first, second], slip, due) {
+                        reached.insert(second.clone());
+                    }
+                }
+            }
+            report.case(reached == forward(first), || {
+                format!(
+                    "slips from {} lead to other circuits",
+                    shown(&text(lines, first))
+                )
+            });
+        }
+        println!(
+            "small: {lines} lines, all slips of up to {longest} steps between circuits of up to {most} gates: {} cases",
+            report.passed + report.failed - before
+        );
+    }
+}
+
+/// From all small circuits a slip to each circuit that forward steps lead to; the reduced
+/// list, by the whole class, is one of them.
+fn every_circuit_reached(report: &mut Report) {
+    let mut slips = 0;
+    for (lines, most) in REACHED {
+        let space = Space::new(lines);
+        let classes = space.classes(most);
+        for node in 0..space.circuits_up_to(most) {
+            let first = space.gates(node);
+            let reached = slips_from(&first);
+            slips += reached.len();
+            for (second, slip) in &reached {
+                slipped(report, lines, [&first, second], slip, (0, 0, 0));
+            }
+            let list = space.gates(classes.first(node));
+            let whole = reached.len() == forward(&first).len() && reached.contains_key(&list);
+            report.case(whole, || {
+                format!(
+                    "no slip from {} to its reduced list, or to some other circuit",
+                    shown(&text(lines, &first))
+                )
+            });
+        }
+    }
+    println!("small: {slips} slips to circuits that steps lead to");
+    report.case(slips >= FEWEST_REACHED, || format!("only {slips} slips"));
+}
+
+/// A shortest slip to each circuit that steps lead to.
+fn slips_from(first: &[Gate]) -> HashMap<Vec<Gate>, Vec<Step>> {
+    let mut known = HashMap::from([(first.to_vec(), Vec::new())]);
+    let mut due = vec![first.to_vec()];
+    while !due.is_empty() {
+        let mut next_due = Vec::new();
+        for gates in due {
+            let slip = known[&gates].clone();
+            for place in 1..gates.len() {
+                for step in [passing(place), merging(place)] {
+                    let Some(next) = steps::taken(&gates, step) else {
+                        continue;
+                    };
+                    if !known.contains_key(&next) {
+                        known.insert(next.clone(), [&slip[..], &[step]].concat());
+                        next_due.push(next);
+                    }
+                }
+            }
+        }
+        due = next_due;
     }
     known
 }

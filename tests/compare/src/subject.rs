@@ -5,6 +5,7 @@ mod declared;
 
 use declared::{
     yilgorza_compare, yilgorza_gate, yilgorza_invert, yilgorza_join, yilgorza_map, yilgorza_reduce,
+    yilgorza_slip,
 };
 use peer::{several, Job, Outcome};
 
@@ -149,6 +150,32 @@ pub fn compare(texts: [&Area<u8>; 2], lists: [&mut Area<u16>; 2]) -> several::Ou
             first.len(),
             first_list.as_mut_ptr(),
             first_list.len(),
+            second.as_ptr(),
+            second.len(),
+            second_list.as_mut_ptr(),
+            second_list.len(),
+            outcome.as_mut_ptr().add(1),
+        );
+    }
+    several_outcome(outcome)
+}
+
+/// Calls the C function that follows a slip: texts are the first circuit, the slip and
+/// the second circuit, lists those of the two circuits. The texts may be one area.
+pub fn slip(texts: [&Area<u8>; 3], lists: [&mut Area<u16>; 2]) -> several::Outcome {
+    let mut outcome = [u64::MAX; 6];
+    let [first, slip, second] = texts.map(Area::inside);
+    let [first_list, second_list] = lists.map(Area::inside_mut);
+    // The areas are live, of the lengths given, and those written don't overlap
+    // any other.
+    unsafe {
+        yilgorza_slip(
+            first.as_ptr(),
+            first.len(),
+            first_list.as_mut_ptr(),
+            first_list.len(),
+            slip.as_ptr(),
+            slip.len(),
             second.as_ptr(),
             second.len(),
             second_list.as_mut_ptr(),

@@ -66,6 +66,7 @@ mod tests {
     //! Expected values from the scope document's examples and order 1.
     use super::*;
     use crate::gate::Gate;
+    use crate::several::texts::{circuit, turned_away};
 
     const LESS: u64 = 0;
     const EQUAL: u64 = 1;
@@ -116,11 +117,6 @@ mod tests {
             assert!(list.iter().all(|&record| record == left));
         }
         (outcome.number, outcome.line, outcome.text)
-    }
-
-    fn circuit(lines: u8, gates: &[&str]) -> String {
-        let gates: String = gates.iter().map(|gate| format!("({gate})\n")).collect();
-        format!("(lines {lines})\n{gates}")
     }
 
     #[test]
@@ -232,26 +228,11 @@ mod tests {
     #[test]
     fn refusals_come_in_the_order_of_the_texts() {
         let good = circuit(3, &["cn 0 1"]);
-        let malformed = "(lines 3)\n(cn 0 1)\n(not 2)";
-        let foreign = circuit(3, &["cn 0 1", "not 2", "not 3"]);
-        let crossed = circuit(3, &["v 1 1"]);
-        let too_many = circuit(3, &["not 2"; 4_097]);
-        let overlong = "x".repeat(60_001);
-        let expected = [
-            (malformed, 3, 3),
-            (&foreign, 4, 4),
-            (&crossed, 5, 2),
-            (&too_many, 9, 4_098),
-            (&overlong, 1, 0),
-            ("", 3, 1),
-            ("(lines 33)\n", 4, 1),
-            (&overlong[..60_000], 3, 1),
-        ];
-        for (text, number, line) in expected {
-            assert_eq!(refused(&good, text), (number, line, 2));
-            assert_eq!(refused(text, &good), (number, line, 1));
-            for (second, _, _) in expected {
-                assert_eq!(refused(text, second), (number, line, 1));
+        for (text, number, line) in turned_away() {
+            assert_eq!(refused(&good, &text), (number, line, 2));
+            assert_eq!(refused(&text, &good), (number, line, 1));
+            for (second, _, _) in turned_away() {
+                assert_eq!(refused(&text, &second), (number, line, 1));
             }
         }
         assert_eq!(

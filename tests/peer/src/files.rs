@@ -1,9 +1,9 @@
 //! The programs: what each writes for the names of files that it is given.
 //!
 //! A program over one text reads the file that is named, else standard input; one
-//! over two takes two names.
+//! over several takes a name for each.
 
-use crate::{comparison, joining, Program, LONGEST_TEXT};
+use crate::{comparison, joining, slips, Program, LONGEST_TEXT};
 use std::ffi::OsString;
 use std::fs::File;
 use std::io::{self, Read, Write};
@@ -59,6 +59,18 @@ pub fn two_texts(program: Pairing, names: &[OsString]) -> Written {
     }
 }
 
+/// What the program over three texts writes for its arguments.
+pub fn three_texts(names: &[OsString]) -> Written {
+    match names {
+        [first, slip, second] if names.iter().all(is_name) => Ok(slips::answer(
+            &text_of(first)?,
+            &text_of(slip)?,
+            &text_of(second)?,
+        )),
+        _ => Err("usage: peer-slip CIRCUIT SLIP SECOND".to_string()),
+    }
+}
+
 /// The whole of a program over one text.
 pub fn run_one(program: Program) -> io::Result<()> {
     write(one_text(program, &arguments(), io::stdin().lock()))
@@ -67,6 +79,11 @@ pub fn run_one(program: Program) -> io::Result<()> {
 /// The whole of a program over two texts.
 pub fn run_two(program: Pairing) -> io::Result<()> {
     write(two_texts(program, &arguments()))
+}
+
+/// The whole of the program over three texts.
+pub fn run_three() -> io::Result<()> {
+    write(three_texts(&arguments()))
 }
 
 fn arguments() -> Vec<OsString> {
@@ -143,6 +160,38 @@ mod tests {
                 Ok(b"(turned-away 3 1 1)\n".to_vec())
             );
         }
+    }
+
+    #[test]
+    fn arguments_that_are_no_three_names() {
+        let long = "x".repeat(LONGEST_NAME + 1);
+        let null = "/dev/null";
+        let wrong: [&[&str]; 9] = [
+            &[],
+            &[null],
+            &[null, null],
+            &[null, null, null, null],
+            &[null, null, ""],
+            &[null, "", null],
+            &["-", null, null],
+            &[null, "-x", null],
+            &[null, null, &long],
+        ];
+        for names in wrong {
+            let usage = "usage: peer-slip CIRCUIT SLIP SECOND";
+            assert_eq!(complaint(three_texts(&named(names))), usage);
+        }
+        for names in [
+            [null, null, "/"],
+            [null, "/none\nsuch", null],
+            ["/", null, null],
+        ] {
+            assert!(complaint(three_texts(&named(&names))).starts_with('"'));
+        }
+        assert_eq!(
+            three_texts(&named(&[null; 3])),
+            Ok(b"(turned-away 3 1 1)\n".to_vec())
+        );
     }
 
     #[test]

@@ -80,6 +80,7 @@ pub fn answer(first: &[u8], second: &[u8]) -> Vec<u8> {
 mod tests {
     //! Expected values from the scope document's examples and order 7.
     use super::*;
+    use crate::several::texts::{circuit, turned_away};
 
     const JUNK: u16 = 0xbeef;
     const NOT_0: u16 = 2;
@@ -141,11 +142,6 @@ mod tests {
             assert_eq!(refused_on(lengths, first, second), ample);
         }
         ample
-    }
-
-    fn circuit(lines: u8, gates: &[&str]) -> String {
-        let gates: String = gates.iter().map(|gate| format!("({gate})\n")).collect();
-        format!("(lines {lines})\n{gates}")
     }
 
     /// So many gates that all vanish, but for one if they are odd.
@@ -249,25 +245,11 @@ mod tests {
     #[test]
     fn refusals_come_in_the_order_of_the_texts() {
         let good = circuit(3, &["cn 0 1"]);
-        let malformed = "(lines 3)\n(cn 0 1)\n(not 2)";
-        let foreign = circuit(3, &["cn 0 1", "not 2", "not 3"]);
-        let crossed = circuit(3, &["v 1 1"]);
-        let overlong = "x".repeat(60_001);
-        let expected = [
-            (malformed, 3, 3),
-            (&foreign, 4, 4),
-            (&crossed, 5, 2),
-            (&nots(3, 4_097), 9, 4_098),
-            (&overlong, 1, 0),
-            ("", 3, 1),
-            ("(lines 33)\n", 4, 1),
-            (&overlong[..60_000], 3, 1),
-        ];
-        for (text, number, line) in expected {
-            assert_eq!(refused(&good, text), (number, line, 2));
-            assert_eq!(refused(text, &good), (number, line, 1));
-            for (second, _, _) in expected {
-                assert_eq!(refused(text, second), (number, line, 1));
+        for (text, number, line) in turned_away() {
+            assert_eq!(refused(&good, &text), (number, line, 2));
+            assert_eq!(refused(&text, &good), (number, line, 1));
+            for (second, _, _) in turned_away() {
+                assert_eq!(refused(&text, &second), (number, line, 1));
             }
         }
     }

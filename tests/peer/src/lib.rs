@@ -1,13 +1,13 @@
-//! A second implementation of the jobs (map, reduce, invert, join, compare), written
-//! from the scope document and the orders alone, in plain Rust. The comparisons take
-//! it as the expected answer, the benchmark as the peer in speed.
+//! A second implementation of the jobs (map, reduce, invert, join, compare, slip),
+//! written from the scope document and the orders alone, in plain Rust. The comparisons
+//! take it as the expected answer, the benchmark as the peer in speed.
 //!
 //! Modules: `gate` (gates, their numbers and when two pass), `reader` (the two
 //! texts and rules 3 to 9), `expansion` (from mct gates to NCV gates),
 //! `reduction` (merge to a fixed point, then order by selection), `joining` and
-//! `comparison` (the jobs over two texts), `several` (the outcome of such a job),
-//! `files` (names of files, and the programs). This file holds the jobs over one
-//! text, with the lent memory and rules 1, 2 and 10.
+//! `comparison` (the jobs over two texts), `slips` (the job over three), `several` (the
+//! outcome of such a job), `files` (names of files, and the programs). This file holds
+//! the jobs over one text, with the lent memory and rules 1, 2 and 10.
 
 pub mod comparison;
 pub mod expansion;
@@ -17,6 +17,7 @@ pub mod joining;
 pub mod reader;
 pub mod reduction;
 pub mod several;
+pub mod slips;
 
 use gate::Gate;
 

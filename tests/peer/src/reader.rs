@@ -162,7 +162,7 @@ fn read_gate(line: &[u8], circuit: &mut Circuit) -> Result<(), u64> {
 }
 
 /// Takes the next line, without its byte 10; none if no byte 10 is left.
-fn next_line<'a>(rest: &mut &'a [u8]) -> Option<&'a [u8]> {
+pub fn next_line<'a>(rest: &mut &'a [u8]) -> Option<&'a [u8]> {
     let end = rest.iter().position(|&byte| byte == b'\n')?;
     let line = &rest[..end];
     *rest = &rest[end + 1..];

@@ -1,14 +1,8 @@
--- `files::read_two` reads no more than its buffers hold. Assumes nothing.
+-- `files::read_both` reads no more than its buffers hold. Assumes nothing.
 use borrow.Author.Needs.{needs}
 use Rattle.files.proofs.Buffer.{fits, wider}
-use Rattle.files.proofs.read_two.Statement.{statement}
-use Rattle.files.proofs.read_two.Tie as tie
-
-arg-count-requires : tie.Need-arg-count-requires
-arg-count-requires c κs = search needs
-
-returns : tie.Need-returns
-returns c = search needs
+use Rattle.files.proofs.read_both.Statement.{statement}
+use Rattle.files.proofs.read_both.Tie as tie
 
 read-argument-requires : tie.Need-read-argument-requires
 read-argument-requires c κs = search needs
@@ -31,8 +25,8 @@ same-length c = search needs
 same-length-2 : tie.Need-same-length-2
 same-length-2 c = search needs
 
-returns-2 : tie.Need-returns-2
-returns-2 c =
+returns : tie.Need-returns
+returns c =
     let k = c .before .before .before .before .before in
     let r = k .before .before .before .before .read-argument in
     let z = c .before .before .read-second in
@@ -41,21 +35,19 @@ returns-2 c =
 same-length-3 : tie.Need-same-length-3
 same-length-3 c = search needs
 
-returns-3 : tie.Need-returns-3
-returns-3 c = search needs
+returns-2 : tie.Need-returns-2
+returns-2 c = search needs
 
 same-length-4 : tie.Need-same-length-4
 same-length-4 c = search needs
 
-returns-4 : tie.Need-returns-4
-returns-4 c = search needs
+returns-3 : tie.Need-returns-3
+returns-3 c = search needs
 
-pub read-two-spec : {M : Type 1} → statement M
-read-two-spec =
+pub read-both-spec : {M : Type 1} → statement M
+read-both-spec =
     tie.close
     (tie.spec
-    arg-count-requires
-    returns
     read-argument-requires
     enum-known-m
     read-second-requires
@@ -63,8 +55,8 @@ read-two-spec =
     enum-told-2
     same-length
     same-length-2
-    returns-2
+    returns
     same-length-3
-    returns-3
+    returns-2
     same-length-4
-    returns-4)
+    returns-3)

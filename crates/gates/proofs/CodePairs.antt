@@ -1,17 +1,16 @@
--- Gates by their numbers: when two have one site and when they pass, and what two of one site merge to. Assumes nothing.
+-- Two gates by their numbers: when they have one site and when they pass, and what two of one site merge to. Assumes nothing.
 use mathlib.Core.Path.{_≡_, refl, sym, ap, _∙_}
 use mathlib.Core.Logic.{_≢_}
 use mathlib.Core.List.{[], _∷_}
 use Prim.Native.Nat.{ℕ, zero, suc, _+_, _*_, _/_, _%_}
 use native.Mathlib.Omega.{arith}
 use Rattle.gates.specs.declared.Gate.the-variants.{Not, Powered}
 use Rattle.gates.specs.Circuit.{powered, Passes}
-use Rattle.gates.specs.Code.{code, gate, Code}
+use Rattle.gates.specs.Code.{code, gate, Code, total, joined}
 use Rattle.gates.proofs.Codes.{target-gate, slot-gate, gate-not, gate-powered, code-not, code-powered}
 use Rattle.gates.specs.Sites.{Same}
 use Rattle.gates.proofs.Pushing.{merged}
 use Rattle.gates.proofs.Merge.{powered-one, merged-powered, merged-not, all-valid-merged}
-use Rattle.merging.specs.Remaining.{total, joined}
 
 -- ---- sites
 

@@ -1,0 +1,3 @@
+-- The laws and theorems of this crate, in reading order.
+pub mod Answers
+pub mod Numbers

@@ -1,0 +1,3 @@
+-- The definitions of this crate, in reading order.
+pub mod Slip
+pub mod Stepped
