@@ -32,7 +32,8 @@ use Rattle.comparison.specs.Compare.{Compare}
 use Rattle.comparison.proofs.One.{compare-one}
 use Rattle.slips.specs.Slip.{Slip}
 use Rattle.slips.proofs.One.{slip-one}
-use Rattle.capi.specs.Exported.{codes, not-0, numbers, four, front, written, stored, TellsOne, Tells, TellsText, TellsTwo}
+use Rattle.storing.specs.Storing.{not-0, front, written, stored}
+use Rattle.capi.specs.Exported.{codes, numbers, four, TellsOne, Tells, TellsText, TellsTwo}
 
 -- ---- the number of `not 0`
 

@@ -6,3 +6,4 @@ pub mod Reduced
 pub mod Sites
 pub mod Inverse
 pub mod Code
+pub mod Whether

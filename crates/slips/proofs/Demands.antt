@@ -145,6 +145,7 @@ module _ (s : List ℕ) (l : List Gate) (t u : List ℕ) (m : List Gate) (x : Ex
       let k = slip-numbered s l t u m x says in
       record {
         by-table = λ n i v. (λ (a, b, c). rw (a, b, c) at says-due, due-says);
+        accepted = (λ e. let (g, c, ss, h, d, a, _) = succeeds e says-due in (g, c, ss, h, d, a), λ (g, c, ss, h, d, a). due-says (no-refusal a) .0);
         refusal-leaves = λ h. record { countless = k .unchanged (λ e. omega (arith, h, e)) .0; early = λ e. k .early h e .1; late = k .late };
         success-leaves = λ e. succeeds e says-due;
       }

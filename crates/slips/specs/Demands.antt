@@ -24,7 +24,7 @@ pub record Read (s : List ℕ) (l : List Gate) (t u : List ℕ) (m : List Gate) 
   pub slip : AcceptsSlip t ss
   pub second : Accepts Circuit u (length m ∷ []) h d
 
--- "It is accepted exactly when each step is allowed on the circuit so far and the last circuit is the second, gate for gate", "on the same line count"
+-- "each step is allowed on the circuit so far and the last circuit is the second, gate for gate", "on the same line count"
 pub record Accepted (s : List ℕ) (l : List Gate) (t u : List ℕ) (m : List Gate) (g : Head) (c : List Gate) (ss : List SlipStep) (h : Head) (d : List Gate) : Type 0 where
   pub read : Read s l t u m g c ss h d
   pub lines : g .lines ≡ h .lines
@@ -58,6 +58,8 @@ pub record SuccessLeaves (l m d : List Gate) (x : Exit) : Type 0 where
 pub record Demand (s : List ℕ) (l : List Gate) (t u : List ℕ) (m : List Gate) (x : Exit) : Type 0 where
   -- a number is given, with its line and its text number, exactly if the table says so
   pub by-table : (n i v : ℕ) → ((x .number ≡ n) × (x .line ≡ i) × (x .text ≡ v)) ↔ Due s l t u m n i v
+  -- "It is accepted exactly when"
+  pub accepted : (x .number ≡ 0) ↔ ((g : Head) × (c : List Gate) × (ss : List SlipStep) × (h : Head) × (d : List Gate) × Accepted s l t u m g c ss h d)
   pub refusal-leaves : 1 ≤ x .number → RefusalLeaves l m x
   pub success-leaves : x .number ≡ 0 → (g : Head) × (c : List Gate) × (ss : List SlipStep) × (h : Head) × (d : List Gate) × Accepted s l t u m g c ss h d × SuccessLeaves l m d x
 

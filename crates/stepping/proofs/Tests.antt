@@ -9,9 +9,9 @@ use borrow.Author.Tests.{eqb-true, eqb-false}
 use Rattle.gates.specs.Circuit.{Passes}
 use Rattle.gates.specs.Sites.{Same}
 use Rattle.gates.specs.Code.{gate}
+use Rattle.gates.specs.Whether.{Whether}
 use Rattle.gates.proofs.Codes.{target-gate, slot-gate}
 use Rattle.gates.proofs.CodePairs.{one-site, same-site}
-use Rattle.stepping.specs.Stepped.{Whether}
 
 module _ (a b : ℕ) where
   -- the first's target is the second's control

@@ -1,6 +1,6 @@
 -- What the code of steps promises: a circuit is the numbers of its gates, a slip's step is a number too. Assumes nothing.
 use mathlib.Core.Path.{_≡_}
-use mathlib.Core.Bool.{Bool, true, false, cond}
+use mathlib.Core.Bool.{cond}
 use mathlib.Core.List.{List, map, _++_}
 use Prim.Native.Nat.{ℕ, suc, _/_, _%_, _≤_}
 use lib.Dec.{eqb}
@@ -9,11 +9,6 @@ use Rattle.gates.specs.Code.{gates, AllCodes}
 use Rattle.stepping.specs.Slip.{SlipStep, pass-at, merge-at, Effect, makes, not-allowed, End, ends-at, refused-at}
 use Rattle.stepping.specs.declared.Stepped.{Stepped}
 use Rattle.stepping.specs.declared.Stepped.the-variants.{Next, Refused}
-
--- a test answers whether P holds
-abbrev pub Whether : Type 0 → Bool → Type 0
-Whether P true = P
-Whether P false = P → ⊥
 
 -- a list without its element at i
 unfoldable pub without : ℕ → List ℕ → List ℕ

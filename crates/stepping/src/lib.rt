@@ -6,8 +6,9 @@ ghost use lib.ListN.{length, take};
 ghost use Rattle.gates.specs.Circuit.{Passes};
 ghost use Rattle.gates.specs.Sites.{Same};
 ghost use Rattle.gates.specs.Code.{gate, gates};
+ghost use Rattle.gates.specs.Whether.{Whether};
 ghost use Rattle.stepping.specs.Slip.{passing, merging, at-place, effect, run as run-slip};
-ghost use Rattle.stepping.specs.Stepped.{slip-step, slip-steps, without, Whether, Circuit, StepsTo, RunsTo};
+ghost use Rattle.stepping.specs.Stepped.{slip-step, slip-steps, without, Circuit, StepsTo, RunsTo};
 
 // What a step, or a slip, makes of a circuit: the number of gates of the circuit that is left; or a refusal, with the line of the slip.
 pub enum Stepped {

@@ -1,8 +1,8 @@
--- `capi::code_at` meets its contract. Assumes nothing.
+-- `storing::code_at` meets its contract. Assumes nothing.
 use borrow.Author.Needs.{needs}
-use Rattle.capi.proofs.Stored.{record-code, record-not-0}
-use Rattle.capi.proofs.code_at.Statement.{statement}
-use Rattle.capi.proofs.code_at.Tie as tie
+use Rattle.storing.proofs.Stored.{record-code, record-not-0}
+use Rattle.storing.proofs.code_at.Statement.{statement}
+use Rattle.storing.proofs.code_at.Tie as tie
 
 mul-result : tie.Need-mul-result
 mul-result c = search needs

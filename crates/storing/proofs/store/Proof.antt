@@ -1,10 +1,10 @@
--- `capi::store_filling` meets its contract. Assumes nothing.
+-- `storing::store` meets its contract. Assumes nothing.
 use mathlib.Core.Path.{_≡_}
 use lib.ListN.{length}
 use native.Mathlib.Omega.{arith}
 use borrow.Author.Needs.{needs}
-use Rattle.capi.proofs.store_filling.Statement.{statement}
-use Rattle.capi.proofs.store_filling.Tie as tie
+use Rattle.storing.proofs.store.Statement.{statement}
+use Rattle.storing.proofs.store.Tie as tie
 
 slice-aggregate-store-codes : tie.Need-slice-aggregate-store-codes
 slice-aggregate-store-codes c = search needs
@@ -21,6 +21,6 @@ same-length c = search needs
 returns : tie.Need-returns
 returns c = search needs
 
-pub store-filling-spec : {M : Type 1} → statement M
-store-filling-spec =
+pub store-spec : {M : Type 1} → statement M
+store-spec =
     tie.close (tie.spec slice-aggregate-store-codes store-codes-requires same-length returns)

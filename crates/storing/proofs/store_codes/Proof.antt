@@ -1,14 +1,14 @@
--- `capi::store_codes` meets its contract. The loop's invariant: the first i records are written. Assumes nothing.
+-- `storing::store_codes` meets its contract. The loop's invariant: the first i records are written. Assumes nothing.
 use borrow.Author.Needs.{needs}
 use mathlib.Core.Path.{_≡_, refl, _∙_}
 use Prim.Native.Nat.{_≤_, _-_}
 use native.Mathlib.Omega.{arith}
 use lib.ListN.{length, length-set}
 use Rattle.records.proofs.Lists.{pasted}
-use Rattle.capi.specs.Exported.{front}
-use Rattle.capi.proofs.Stored.{stores, stores-all}
-use Rattle.capi.proofs.store_codes.Statement.{statement}
-use Rattle.capi.proofs.store_codes.Tie as tie
+use Rattle.storing.specs.Storing.{front}
+use Rattle.storing.proofs.Stored.{stores, stores-all}
+use Rattle.storing.proofs.store_codes.Statement.{statement}
+use Rattle.storing.proofs.store_codes.Tie as tie
 
 abbrev Inv-loop : tie.InvT-loop
 Inv-loop list₀ codes count limit i₀ list i = (i ≤ limit) × (length list ≡ length list₀) × (list ≡ pasted (front codes count limit) list₀ i)

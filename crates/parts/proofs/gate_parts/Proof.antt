@@ -1,8 +1,8 @@
--- `capi::gate_parts` meets its contract. Assumes nothing.
+-- `parts::gate_parts` meets its contract. Assumes nothing.
 use borrow.Author.Needs.{needs}
-use Rattle.capi.specs.Exported.{gate-parts}
-use Rattle.capi.proofs.gate_parts.Statement.{statement}
-use Rattle.capi.proofs.gate_parts.Tie as tie
+use Rattle.parts.specs.Parts.{gate-parts}
+use Rattle.parts.proofs.gate_parts.Statement.{statement}
+use Rattle.parts.proofs.gate_parts.Tie as tie
 
 enum-known-g : tie.Need-enum-known-g
 enum-known-g c = search needs

@@ -7,7 +7,7 @@ use native.Mathlib.Omega.{arith}
 use lib.ListN.{length, getD, set, take, drop, replicate, length-append, length-take, length-replicate, List·getD-eq-default}
 use lib.Seq.{length-take-le, take-all, getD-take}
 use Rattle.records.proofs.Lists.{pasted, pasted-more}
-use Rattle.capi.specs.Exported.{not-0, record-at, front, written, Storable}
+use Rattle.storing.specs.Storing.{not-0, record-at, front, written, Storable}
 
 -- ---- record i
 

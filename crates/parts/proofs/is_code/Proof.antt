@@ -1,9 +1,9 @@
--- `capi::is_code` meets its contract. Assumes nothing.
+-- `parts::is_code` meets its contract. Assumes nothing.
 use native.Mathlib.Omega.{arith}
 use borrow.Author.Needs.{needs}
-use Rattle.capi.proofs.Numbers.{none-above, whether-not, none-unpowered, whether-powered}
-use Rattle.capi.proofs.is_code.Statement.{statement}
-use Rattle.capi.proofs.is_code.Tie as tie
+use Rattle.parts.proofs.Numbers.{none-above, whether-not, none-unpowered, whether-powered}
+use Rattle.parts.proofs.is_code.Statement.{statement}
+use Rattle.parts.proofs.is_code.Tie as tie
 
 returns : tie.Need-returns
 returns c = none-above (c .before .args .k) (c .if1 .taken)

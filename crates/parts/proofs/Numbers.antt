@@ -11,8 +11,8 @@ use Rattle.gates.specs.Circuit.{valid-not, valid-powered}
 use Rattle.gates.specs.Code.{code, gate, Code}
 use Rattle.gates.proofs.Sites.{passes-self}
 use Rattle.gates.proofs.Codes.{target-gate, slot-gate, power-gate, gate-not, gate-powered, code-not, code-powered, code-code, code-injective, below, some-power}
-use Rattle.stepping.specs.Stepped.{Whether}
-use Rattle.capi.specs.Exported.{three, gate-parts, RecordParts, of-gate, of-none}
+use Rattle.gates.specs.Whether.{Whether}
+use Rattle.parts.specs.Parts.{three, gate-parts, RecordParts, of-gate, of-none}
 
 -- ---- which numbers are gates'
 

@@ -1,10 +1,10 @@
--- `capi::yilgorza_gate` meets its contract. Assumes nothing.
+-- `parts::read` meets its contract. Assumes nothing.
 use native.Mathlib.Omega.{arith}
 use borrow.Author.Needs.{needs}
 use Rattle.gates.proofs.Codes.{below}
-use Rattle.capi.proofs.Numbers.{reads-gate, reads-none}
-use Rattle.capi.proofs.yilgorza_gate.Statement.{statement}
-use Rattle.capi.proofs.yilgorza_gate.Tie as tie
+use Rattle.parts.proofs.Numbers.{reads-gate, reads-none}
+use Rattle.parts.proofs.read.Statement.{statement}
+use Rattle.parts.proofs.read.Tie as tie
 
 is-code-requires : tie.Need-is-code-requires
 is-code-requires c κs = search needs
@@ -21,8 +21,8 @@ returns c =
     (reads-gate (c .before .before .before .before .args .code) (rw (c .before .before .if1 .taken) at (c .before .before .before .is-code .ensures)))
 
 returns-2 : tie.Need-returns-2
-returns-2 c = reads-none (c .before .before .before .args .code) (rw (c .before .if1 .left) at (c .before .before .is-code .ensures))
+returns-2 c = reads-none (c .before .before .args .code) (rw (c .if1 .left) at (c .before .is-code .ensures))
 
-pub yilgorza-gate-spec : {M : Type 1} → statement M
-yilgorza-gate-spec =
+pub read-spec : {M : Type 1} → statement M
+read-spec =
     tie.close (tie.spec is-code-requires decode-requires gate-parts-requires returns returns-2)

@@ -1,0 +1,2 @@
+-- The laws and theorems of this crate, in reading order.
+pub mod Stored
