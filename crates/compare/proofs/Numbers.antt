@@ -10,7 +10,7 @@ use Rattle.text.specs.Refusals.{number-of}
 use Rattle.habits.specs.Habits.{away}
 use Rattle.habits.proofs.Yields.{Yields, ends, yields-then, yields-away}
 use Rattle.comparison.specs.Compare.{judged}
-use Rattle.console.proofs.Numbers.{Writable, yields-writable}
+use Rattle.printing.proofs.Numbers.{Writable, yields-writable}
 
 -- what is judged of the texts s and t: each refusal is one that programs may write
 judged-writable : (s t : List ℕ) → Yields Writable (λ _. Unit {0}) (judged s 4096 t 4096)

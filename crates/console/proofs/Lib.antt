@@ -1,9 +1,3 @@
--- The laws and theorems of this crate, in reading order.
+-- The laws of this crate, in reading order.
 pub mod Front
 pub mod Answers
-pub mod Prints
-pub mod Before
-pub mod JudgedBy
-pub mod Examples
-pub mod Numbers
-pub mod Told

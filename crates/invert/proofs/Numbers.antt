@@ -11,8 +11,8 @@ use Rattle.jobs.specs.Jobs.{takes, judged-text}
 use Rattle.inversion.specs.Invert.{inverse-judged}
 use Rattle.inversion.proofs.Inverted.{inverse-away}
 use Rattle.console.specs.declared.Program.the-variants.{Reduce}
-use Rattle.console.proofs.Numbers as console
+use Rattle.printing.proofs.Numbers as printing
 
 pub never-2-or-10 : (s : List ℕ) {r : Refusal} {l : ℕ} → inverse-judged (judged-text Circuit s 4096) ≡ turned-away r l → (number-of r ≢ 2) × (number-of r ≢ 10)
 unfolding takes
-never-2-or-10 s q = console.never-2-or-10 Reduce s (inverse-away (judged-text Circuit s 4096) q)
+never-2-or-10 s q = printing.never-2-or-10 Reduce s (inverse-away (judged-text Circuit s 4096) q)

@@ -14,7 +14,7 @@ use Rattle.inversion.specs.Invert.{inverse-judged}
 use Rattle.inversion.proofs.Inverted.{inverse-valid}
 use Rattle.console.specs.Output.{PrintsBy}
 use Rattle.writing.proofs.Ended.{Ended}
-use Rattle.console.proofs.Prints.{printed-one, shows-ended}
+use Rattle.printing.proofs.Prints.{printed-one, shows-ended}
 use Rattle.invert.specs.Output.{Prints}
 
 -- ---- exactly one

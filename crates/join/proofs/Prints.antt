@@ -14,7 +14,7 @@ use Rattle.jobs.specs.Jobs.{as-text}
 use Rattle.joins.specs.Join.{judged}
 use Rattle.joins.proofs.One.{yields-judged}
 use Rattle.writing.proofs.Ended.{Ended}
-use Rattle.console.proofs.Prints.{shown-ended}
+use Rattle.printing.proofs.Prints.{shown-ended}
 use Rattle.join.specs.Output.{PrintsBy, Prints}
 
 -- ---- exactly one

@@ -16,7 +16,7 @@ use Rattle.sliptext.proofs.Slips.{refuses-slip-exactly-if, accepts-slip-exactly
 use Rattle.habits.specs.Habits.{away}
 use Rattle.habits.proofs.Yields.{Yields, refuses, ends, yields-then, yields-require, yields-away}
 use Rattle.slips.specs.Slip.{ended, gate-for-gate, same-end, checked, judged}
-use Rattle.console.proofs.Numbers.{Writable, yields-writable}
+use Rattle.printing.proofs.Numbers.{Writable, yields-writable}
 
 -- a slip is refused with 1, 3 or 9
 slip-number : {s : List ℕ} {n l : ℕ} → RefusesSlip s n l → (n ≢ 2) × (n ≢ 10)

@@ -1,0 +1,1 @@
+// What the programs write: theorems only.
