@@ -14,7 +14,7 @@ use Rattle.ordering.proofs.Linked.{reduced-compares}
 use Rattle.forms.specs.Forms.{text-turned-away}
 use Rattle.habits.specs.Habits.{Judgement, fine, away, Circuit, Answer}
 use Rattle.records.specs.declared.DoneTwo.{DoneTwo}
-use Rattle.jobs.proofs.Numbers.{from-1}
+use Rattle.demands.proofs.Numbers.{from-1}
 use Rattle.comparison.specs.Compare.{judged, Compared, Compare, Hands}
 use Rattle.console.specs.Output.{Fronts, Answers}
 use Rattle.printing.proofs.Told.{Told, refused, succeeded, told}

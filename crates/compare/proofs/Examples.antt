@@ -19,7 +19,7 @@ use Rattle.ordering.specs.Comparing.{then, compare-numbers, compare-gates, dict
 use Rattle.writing.specs.Decimal.{last-digits, decimal}
 use Rattle.forms.specs.Forms.{three-numbers}
 use Rattle.habits.specs.Habits.{passes, size-rules, taken, told, text-judged}
-use Rattle.jobs.specs.Examples.{typed}
+use Rattle.demands.specs.Examples.{typed}
 use Rattle.comparison.specs.Compare.{judged}
 use Rattle.compare.specs.Output.{Prints}
 use Rattle.compare.proofs.Prints.{printed-by, prints-printed}

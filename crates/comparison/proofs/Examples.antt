@@ -37,7 +37,7 @@ use Rattle.ordering.proofs.Circuits.{fewer-lines, same-lines}
 use Rattle.habits.specs.Habits.{Exit}
 use Rattle.habits.specs.Demands.{failing-line, Sized}
 use Rattle.habits.proofs.Lines.{judge-by-line}
-use Rattle.jobs.specs.Examples.{typed}
+use Rattle.demands.specs.Examples.{typed}
 use Rattle.comparison.specs.Compare.{Compare}
 use Rattle.comparison.specs.Demands.{by-first, by-second}
 use Rattle.comparison.specs.Examples.{Answer, says, away, Row, compares, least, longest-before, Shows, longest, Correct, table}

@@ -13,7 +13,7 @@ use Rattle.ordering.specs.declared.Comparison.{Comparison}
 use Rattle.ordering.specs.declared.Comparison.the-variants.{Less, Equal, Greater}
 use Rattle.ordering.specs.Comparing.{count-of}
 use Rattle.habits.specs.Habits.{Exit}
-use Rattle.jobs.specs.Examples.{typed}
+use Rattle.demands.specs.Examples.{typed}
 use Rattle.comparison.specs.Compare.{Compare}
 use Rattle.comparison.specs.Demands.{Ran}
 

@@ -20,8 +20,8 @@ use Rattle.writing.specs.Decimal as form
 use Rattle.jobs.specs.Jobs.{Job, mapping, reducing, takes, Output, as-text, as-count, output, wanted, Entry, Exit, refusal, judged, judged-text, success, written, put-out, answered, Settled, Says}
 use Rattle.jobs.specs.Handing.{exit-of, Own}
 use Rattle.jobs.proofs.One.{text-passed}
-use Rattle.jobs.proofs.Demands.{text-wanted}
-use Rattle.jobs.proofs.Numbers.{from-1, text-count}
+use Rattle.demands.proofs.Demands.{text-wanted}
+use Rattle.demands.proofs.Numbers.{from-1, text-count}
 use Rattle.console.specs.declared.Program.{Program}
 use Rattle.console.specs.declared.Program.the-variants.{Map, Reduce, Quote}
 use Rattle.console.specs.Output.{job-of, output-of, shown, PrintsBy, answer-bytes, Fronts, Answers, Does, Succeeds}

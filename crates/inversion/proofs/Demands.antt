@@ -13,10 +13,10 @@ use Rattle.text.specs.Judging.{Judged, turned-away, accepted}
 use Rattle.text.proofs.Accepted.{accepted-head, accepted-circuit, away-accepted}
 use Rattle.habits.specs.Demands.{Refuses, Accepts}
 use Rattle.jobs.specs.Jobs.{reducing, takes, Entry, Exit, judged}
-use Rattle.jobs.specs.Demands as jobs
-use Rattle.jobs.specs.Demands.{RefusalLeaves, SuccessLeaves, Yields}
+use Rattle.demands.specs.Demands as jobs
+use Rattle.demands.specs.Demands.{RefusalLeaves, SuccessLeaves, Yields}
 use Rattle.jobs.proofs.Habits.{refuses-judged, judged-accepts, accepts-judged}
-use Rattle.jobs.proofs.Numbers.{demand-1}
+use Rattle.demands.proofs.Numbers.{demand-1}
 use Rattle.inversion.specs.Invert.{Invert}
 use Rattle.inversion.specs.Demands.{Inverts, Due, refused, short-answer, no-refusal, Demand}
 use Rattle.inversion.proofs.Reducing.{inverse-entry, inverse-accepts, inverts-as, refuses-as}

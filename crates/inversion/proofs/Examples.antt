@@ -22,8 +22,8 @@ use Rattle.text.specs.Reading.{strip, second, num, tail, pair, list, many, line
 use Rattle.text.specs.Judging as J
 use Rattle.text.specs.Judging.{Judged, belongs, most, any-from, rising, first, head-rules, rules, or-else, judge-lines, keep-rules, rest, judge-rest, judge-text, read-all, judge}
 use Rattle.jobs.specs.Jobs.{reducing, judged, Settled}
-use Rattle.jobs.specs.Examples.{typed}
-use Rattle.jobs.proofs.Table.{judged-is, answers, fits, fits-shown}
+use Rattle.demands.specs.Examples.{typed}
+use Rattle.demands.proofs.Table.{judged-is, answers, fits, fits-shown}
 use Rattle.inversion.specs.Invert.{inverse-judged, Invert}
 use Rattle.inversion.specs.Examples.{Row, inverts, Correct, table}
 use Rattle.inversion.proofs.Inverted.{inverse-valid}

@@ -8,7 +8,7 @@ use Rattle.text.specs.Judging.{Judged}
 use Rattle.text.proofs.Keepless.{judge, circuits-before}
 use Rattle.jobs.specs.Jobs as jobs
 use Rattle.jobs.specs.Jobs.{reducing, Entry, Exit, Settled}
-use Rattle.jobs.proofs.JudgedBy.{judged-text, judged}
+use Rattle.demands.proofs.JudgedBy.{judged-text, judged}
 use Rattle.inversion.specs.Invert as now
 use Rattle.inversion.specs.Invert.{inverse-judged}
 

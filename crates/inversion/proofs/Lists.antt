@@ -15,8 +15,8 @@ use Rattle.text.specs.Heads.{unkept}
 use Rattle.text.specs.declared.Kind.the-variants.{Circuit}
 use Rattle.text.proofs.Accepted.{judge-accepted, text-valid}
 use Rattle.jobs.specs.Jobs.{reducing, takes, judged}
-use Rattle.jobs.specs.Demands as jobs
-use Rattle.jobs.proofs.Demands.{ran-reduced, shown-circuit, demand-2}
+use Rattle.demands.specs.Demands as jobs
+use Rattle.demands.proofs.Demands.{ran-reduced, shown-circuit, demand-2}
 use Rattle.jobs.proofs.Habits.{accepts-judged}
 use Rattle.inversion.specs.Demands.{Ran, Unmoved, Undoes, Lists}
 use Rattle.inversion.proofs.Reducing.{inverse-entry, inverse-accepts, inverts-as}

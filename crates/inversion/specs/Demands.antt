@@ -19,7 +19,7 @@ use Rattle.text.specs.Text.{circuit-text}
 use Rattle.text.specs.Judging.{accepted, judge}
 use Rattle.habits.specs.Demands.{Refuses, Accepts}
 use Rattle.jobs.specs.Jobs.{reducing, as-text, Entry, Exit, Says}
-use Rattle.jobs.specs.Demands.{Listed, RefusalLeaves, SuccessLeaves, ShownCircuit}
+use Rattle.demands.specs.Demands.{Listed, RefusalLeaves, SuccessLeaves, ShownCircuit}
 use Rattle.inversion.specs.Invert.{Invert}
 
 -- ---- the numbers, and what is left

@@ -5,7 +5,7 @@ use mathlib.Core.Path.{_≡_}
 use mathlib.Core.List.{List, [], _∷_}
 use lib.ListN.{length}
 use Rattle.jobs.specs.Jobs.{Entry, Exit}
-use Rattle.jobs.specs.Examples.{typed, Answer, text, away, Shows, Gets}
+use Rattle.demands.specs.Examples.{typed, Answer, text, away, Shows, Gets}
 use Rattle.inversion.specs.Invert.{Invert}
 
 -- a text as it is typed, and the answer

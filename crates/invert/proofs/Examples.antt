@@ -20,7 +20,7 @@ use Rattle.text.specs.Judging.{belongs, most, any-from, rising, first, head-rul
 use Rattle.writing.specs.Decimal.{last-digits, decimal, two-numbers}
 use Rattle.habits.specs.Habits.{size-rules}
 use Rattle.jobs.specs.Jobs.{judged-text}
-use Rattle.jobs.specs.Examples.{typed}
+use Rattle.demands.specs.Examples.{typed}
 use Rattle.inversion.specs.Invert.{inverse-judged}
 use Rattle.invert.specs.Output.{Prints}
 use Rattle.invert.proofs.Prints.{printed-by, prints-printed}

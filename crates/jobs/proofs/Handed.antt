@@ -21,10 +21,10 @@ use Rattle.text.specs.Refusals.{number-of}
 use Rattle.text.specs.declared.Kind.{Kind}
 use Rattle.text.specs.declared.Kind.the-variants.{Cascade, Circuit}
 use Rattle.text.specs.Judging.{Judged, turned-away, accepted, first, or-else, judge}
-use Rattle.judging.specs.declared.Verdict.{Verdict}
+use Rattle.rules.specs.declared.Verdict.{Verdict}
 use Rattle.loading.specs.declared.Loaded.{Loaded}
 use Rattle.loading.specs.declared.Loaded.the-variants as loaded
-use Rattle.judging.specs.Seen.{seen-verdict}
+use Rattle.rules.specs.Verdicts.{seen-verdict}
 use Rattle.loading.specs.Loaded.{Renderable, LoadsTo}
 use Rattle.reduction.specs.Reducing.{ReducedTo}
 use Rattle.habits.specs.Habits as habits

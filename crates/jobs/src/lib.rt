@@ -1,9 +1,9 @@
 // Two jobs: map a cascade text, or quote its gate count alone; reduce a circuit text.
 use gates::Gate;
-use judging::Verdict;
 use loading::Loaded;
 use records::Done;
 use records::Outcome;
+use rules::Verdict;
 use text::Head;
 use text::Kind;
 use text::Refusal;
@@ -12,7 +12,7 @@ ghost use mathlib.Core.List.{[], _∷_};
 ghost use Prim.Native.Nat.{_≤_};
 ghost use lib.ListN.{length};
 ghost use Rattle.text.specs.Judging.{first};
-ghost use Rattle.judging.specs.Seen.{seen-verdict};
+ghost use Rattle.rules.specs.Verdicts.{seen-verdict};
 ghost use Rattle.loading.specs.Loaded.{Renderable, LoadsTo};
 ghost use Rattle.habits.specs.Habits.{size-rules};
 ghost use Rattle.jobs.specs.Jobs.{mapping, reducing, output, writes, judged-text, Says};

@@ -24,7 +24,7 @@ use Rattle.records.specs.Records.{filled-by}
 use Rattle.jobs.specs.Jobs.{as-text}
 use Rattle.jobs.specs.Habits.{answer, Right}
 use Rattle.jobs.specs.Handing.{exit-of-text}
-use Rattle.jobs.proofs.Numbers.{from-1}
+use Rattle.demands.proofs.Numbers.{from-1}
 use Rattle.joins.specs.Join.{judged, Join, Hands}
 use Rattle.joins.proofs.One.{yields-judged}
 use Rattle.console.specs.Output.{answer-bytes, Fronts, Answers}

@@ -18,7 +18,7 @@ use Rattle.text.specs.Judging.{belongs, most, any-from, rising, first, head-rul
 use Rattle.writing.specs.Decimal.{last-digits, decimal}
 use Rattle.forms.specs.Forms.{three-numbers}
 use Rattle.habits.specs.Habits.{passes, require, size-rules, taken, told, text-judged}
-use Rattle.jobs.specs.Examples.{typed}
+use Rattle.demands.specs.Examples.{typed}
 use Rattle.joins.specs.Join.{plain-join, judged}
 use Rattle.join.specs.Output.{Prints}
 use Rattle.join.proofs.Prints.{printed-by, prints-printed}

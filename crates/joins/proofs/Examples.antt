@@ -33,8 +33,8 @@ use Rattle.habits.proofs.Refused.{accepts-exactly-if}
 use Rattle.habits.proofs.Says.{says-fine}
 use Rattle.jobs.specs.Jobs.{as-text}
 use Rattle.jobs.specs.Habits.{answer, Right}
-use Rattle.jobs.specs.Examples.{typed}
-use Rattle.jobs.proofs.Table.{same, same-is}
+use Rattle.demands.specs.Examples.{typed}
+use Rattle.demands.proofs.Table.{same, same-is}
 use Rattle.joins.specs.Join.{plain-join, judged, Join}
 use Rattle.joins.specs.Examples.{Answer, text, away, Row, joins, longest-with, Shows, Gets, longest, Correct, table}
 use Rattle.joins.proofs.One.{yields-judged}

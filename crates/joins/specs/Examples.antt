@@ -8,7 +8,7 @@ use Rattle.gates.specs.declared.Gate.{Gate}
 use Rattle.gates.specs.declared.Gate.the-variants.{Not}
 use Rattle.text.specs.Text.{circuit-text}
 use Rattle.habits.specs.Habits.{Exit}
-use Rattle.jobs.specs.Examples.{typed}
+use Rattle.demands.specs.Examples.{typed}
 use Rattle.joins.specs.Join.{Join}
 
 -- the whole answer text; a refusal, its line and its text number

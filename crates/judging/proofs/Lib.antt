@@ -1,4 +1,3 @@
 -- The laws of this crate, in reading order.
-pub mod Rules
 pub mod Lines
 pub mod Heads

@@ -1,9 +1,3 @@
 -- The laws and theorems of this crate, in reading order.
-pub mod Stacking
-pub mod Remaining
-pub mod Meeting
-pub mod Finding
 pub mod Stepping
-pub mod Named
 pub mod Turning
-pub mod Examples

@@ -14,12 +14,13 @@ use Rattle.gates.proofs.Pushing.{merged}
 use Rattle.partners.specs.Partner.{NoPartner}
 use Rattle.partners.specs.Steps.{Leaves, partnered, alone}
 use Rattle.partners.proofs.Partners.{partner-at, partner-same, merges-merged, brought-partner}
-use Rattle.merging.specs.Remaining.{kept, remaining}
-use Rattle.merging.specs.Stacks.{Stacked, by-site, by-target, by-control}
-use Rattle.merging.specs.Merged.{PartnerAt, Codes, Stepped}
-use Rattle.merging.proofs.Stacking.{stacks-pushed, stacks-changed}
+use Rattle.stacks.specs.Remaining.{kept, remaining}
+use Rattle.stacks.specs.Stacks.{Stacked, by-site, by-target, by-control}
+use Rattle.stacks.specs.Found.{PartnerAt}
+use Rattle.merging.specs.Merged.{Codes, Stepped}
+use Rattle.stacks.proofs.Stacking.{stacks-pushed, stacks-changed}
 use Rattle.gates.proofs.CodePairs.{same-site, merged-none, merged-one, code-joined}
-use Rattle.merging.proofs.Remaining.{kept-none, kept-one, remaining-cons, remaining-append, remaining-suc}
+use Rattle.stacks.proofs.Remaining.{kept-none, kept-one, remaining-cons, remaining-append, remaining-suc}
 
 -- ---- lists
 

@@ -15,11 +15,11 @@ use Rattle.gates.specs.Reduced.{Reduced}
 use Rattle.partners.specs.Shortest.{Shortest}
 use Rattle.partners.specs.Steps.{Leaves, Turns, over, turn}
 use Rattle.partners.proofs.PartnerSearch.{turns-fewest, turns-reduced}
-use Rattle.merging.specs.Remaining.{kept, remaining}
-use Rattle.merging.specs.Stacks.{Stacked, by-site, by-target, by-control}
+use Rattle.stacks.specs.Remaining.{kept, remaining}
+use Rattle.stacks.specs.Stacks.{Stacked, by-site, by-target, by-control}
 use Rattle.merging.specs.Merged.{Codes, Stepped, Kept, Closed, MergedTo}
-use Rattle.merging.proofs.Stacking.{stacks-empty}
-use Rattle.merging.proofs.Remaining.{kept-none, kept-one, remaining-nil, all-remaining, remaining-suc}
+use Rattle.stacks.proofs.Stacking.{stacks-empty}
+use Rattle.stacks.proofs.Remaining.{kept-none, kept-one, remaining-nil, all-remaining, remaining-suc}
 
 -- ---- lists
 

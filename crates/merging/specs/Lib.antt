@@ -1,4 +1,2 @@
 -- The definitions of this crate, in reading order.
-pub mod Remaining
-pub mod Stacks
 pub mod Merged

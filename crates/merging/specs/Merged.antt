@@ -1,26 +1,11 @@
--- The partner of a gate among the first places of a list, what one step leaves there, and what merging all gates with their partners leaves.
--- Assumes nothing.
+-- What one step leaves among the first places of a list, and what merging all gates with their partners leaves. Assumes nothing.
 use mathlib.Core.Path.{_≡_}
 use mathlib.Core.List.{List, [], _++_}
 use Prim.Native.Nat.{ℕ, _+_, _%_, _≤_, _<_}
-use lib.ListN.{length, take, drop, getD}
+use lib.ListN.{take, drop, getD}
 use Rattle.gates.specs.Code.{gate, gates, Code, AllCodes}
-use Rattle.partners.specs.Partner.{Brought, NoPartner}
 use Rattle.partners.specs.Steps.{Leaves, Turns}
-use Rattle.merging.specs.declared.Partner.{Partner}
-use Rattle.merging.specs.declared.Partner.the-variants.{At, Nowhere}
-use Rattle.merging.specs.Remaining.{kept, remaining}
-
--- the gate at place j is the partner of g in the circuit that remains of the first n: its place there is the number of gates that remain before j
-pub record PartnerAt (l : List ℕ) (n g j : ℕ) : Type 0 where
-  pub inside : j < n
-  pub there : 1 ≤ getD l j 0 % 4
-  pub brought : Brought (gates (remaining (take n l))) (gate g) (length (remaining (take j l)))
-
--- where the partner of g stands among the first n; nowhere if the circuit that remains of them has none
-abbrev pub Found : List ℕ → ℕ → ℕ → Partner → Type 0
-Found l n g (At j) = PartnerAt l n g j
-Found l n g Nowhere = NoPartner (gates (remaining (take n l))) (gate g)
+use Rattle.stacks.specs.Remaining.{kept, remaining}
 
 -- each of the first n that is still there is the number of a gate
 abbrev pub Codes : List ℕ → ℕ → Type 0

@@ -2,52 +2,14 @@
 // pushed). Each gate in turn looks for its partner among those before it. The two merge in the partner's place, and what has become the identity
 // is removed; a gate without partner is pushed at the end.
 //
-// A gate is its number. Three sets of stacks hold the places of gates: a stack for each site (target and control together), for each target, for
-// each control. Lines count from 1 there, and 0 is the control of a NOT. `tops` has, for each stack, the place on top plus 1, or 0 if it is empty;
-// `below` has, for each place, the one below it in its stack, in the same way. A removed gate keeps its target and control, with the power 0, and
-// is pulled when it is next found at the top. So each place is pulled at most once from each of its three stacks, and the search costs a constant
-// per gate, amortised.
+// A gate is its number, and a removed one keeps its place with the power 0, until the gaps are closed.
+use stacks::Partner;
 ghost use mathlib.Core.Path.{_≡_};
 ghost use Prim.Native.Nat.{_+_, _*_, _/_, _≤_, _<_};
 ghost use lib.ListN.{length, take, getD, set};
 ghost use Rattle.gates.specs.Code.{Code, AllCodes, joined};
-ghost use Rattle.merging.specs.Stacks.{Falls, TopGate, Pulled, Stacked};
-ghost use Rattle.merging.specs.Merged.{Found, Codes, Stepped, Kept, Closed, MergedTo};
-
-// Where the partner of a gate stands: at a place, or nowhere.
-enum Partner {
-    At(usize),
-    Nowhere,
-}
-
-// The last gate that is still there in the stack from `top` on, plus 1, or 0.
-fn top_gate(list: &[u16], below: &[u16], top: u16) -> u16
-    requires { ⌜ (top ≤ length (now list)) × (top ≤ length (now below)) ⌝ }
-    requires { ⌜ Falls (now below) top ⌝ }
-    ensures { λ r. ⌜ TopGate (now (list .entry)) (now (below .entry)) top r ⌝ }
-{
-    let mut h = top;
-    while 0 < h {
-        let q = (h - 1) as usize;
-        if 0 < list[q] % 4 {
-            return h;
-        }
-        h = below[q];
-    }
-    h
-}
-
-// Pulls removed gates from the top of stack k, and gives its top.
-fn pull_removed(list: &[u16], tops: &mut [u16], below: &[u16], k: usize) -> u16
-    requires { ⌜ k < length (now tops) ⌝ }
-    requires { ⌜ (getD (now tops) k 0 ≤ length (now list)) × (getD (now tops) k 0 ≤ length (now below)) ⌝ }
-    requires { ⌜ Falls (now below) (getD (now tops) k 0) ⌝ }
-    ensures { λ r. ⌜ Pulled (now (list .entry)) (now (below .entry)) k (now (tops .entry)) r (now (tops .exit)) ⌝ }
-{
-    let top = top_gate(list, below, tops[k]);
-    tops[k] = top;
-    top
-}
+ghost use Rattle.stacks.specs.Stacks.{Stacked};
+ghost use Rattle.merging.specs.Merged.{Codes, Stepped, Kept, Closed, MergedTo};
 
 // Puts place n on top of stack k.
 fn stack(tops: &mut [u16], below: &mut [u16], n: usize, k: usize)
@@ -57,42 +19,6 @@ fn stack(tops: &mut [u16], below: &mut [u16], n: usize, k: usize)
 {
     below[n] = tops[k];
     tops[k] = (n + 1) as u16;
-}
-
-// The partner of g among the first n places: the gate at the top of the stack of its target and control, if no later gate has g's control as its
-// target or g's target as its control.
-fn find_partner(
-    list: &[u16],
-    sites: &mut [u16],
-    targets: &mut [u16],
-    controls: &mut [u16],
-    below_site: &[u16],
-    below_target: &[u16],
-    below_control: &[u16],
-    n: usize,
-    g: u16,
-) -> Partner
-    requires { ⌜ (n ≤ length (now list)) × (n ≤ 4096) × (g < 4224) ⌝ }
-    requires { ⌜ Stacked (now list) n (now sites) (now targets) (now controls) (now «below_site») (now «below_target») (now «below_control») ⌝ }
-    ensures { λ r. ⌜ Found (now (list .entry)) n g r ⌝ }
-    ensures { λ r. ⌜ Stacked (now (list .entry)) n (now (sites .exit)) (now (targets .exit)) (now (controls .exit)) (now («below_site» .entry)) (now («below_target» .entry)) (now («below_control» .entry)) ⌝ }
-{
-    let site = (g / 4) as usize;
-    let target = site / 33 + 1;
-    let control = site % 33;
-    let s = pull_removed(list, sites, below_site, site);
-    if s == 0 {
-        return Partner::Nowhere;
-    }
-    let t = pull_removed(list, targets, below_target, control);
-    if s < t {
-        return Partner::Nowhere;
-    }
-    let c = pull_removed(list, controls, below_control, target);
-    if s < c {
-        return Partner::Nowhere;
-    }
-    Partner::At((s - 1) as usize)
 }
 
 // What stands at j has become the identity: its power is 0, its target and control stay for the stacks.
@@ -162,7 +88,7 @@ fn step(
     ensures { λ r. ⌜ Stepped (now (list .entry)) n g r (now (list .exit)) ⌝ }
     ensures { λ r. ⌜ Stacked (now (list .exit)) r (now (sites .exit)) (now (targets .exit)) (now (controls .exit)) (now («below_site» .exit)) (now («below_target» .exit)) (now («below_control» .exit)) ⌝ }
 {
-    match find_partner(
+    match stacks::find_partner(
         list,
         sites,
         targets,

@@ -4,7 +4,7 @@ use mathlib.Core.List.{List}
 use Prim.Native.Nat.{ℕ}
 use Rattle.jobs.specs.Jobs as jobs
 use Rattle.jobs.specs.Jobs.{judged-text}
-use Rattle.jobs.proofs.Before.{Job, mapping, reducing, quoting, takes, output}
+use Rattle.demands.proofs.Before.{Job, mapping, reducing, quoting, takes, output}
 use Rattle.console.specs.declared.Program.{Program}
 use Rattle.console.specs.declared.Program.the-variants.{Map, Reduce, Quote}
 use Rattle.console.specs.Output as now

@@ -12,10 +12,10 @@ use Rattle.text.specs.Refusals.{number-of}
 use Rattle.text.specs.Text.{circuit-text}
 use Rattle.writing.specs.Decimal as form
 use Rattle.jobs.specs.Jobs.{Job, mapping, reducing, takes, Output, as-text, as-count, judged-text, Entry, Exit, Says}
-use Rattle.jobs.specs.Examples.{typed, Answer, text, quote, away, Row, gives, expands, Shows, Gets, Correct, table, kept-table}
+use Rattle.demands.specs.Examples.{typed, Answer, text, quote, away, Row, gives, expands, Shows, Gets, Correct, table, kept-table}
 use Rattle.jobs.proofs.One.{says-one}
-use Rattle.jobs.proofs.Numbers.{from-1, text-count}
-use Rattle.jobs.proofs.Table.{examples, kept-examples}
+use Rattle.demands.proofs.Numbers.{from-1, text-count}
+use Rattle.demands.proofs.Table.{examples, kept-examples}
 use Rattle.console.specs.declared.Program.{Program}
 use Rattle.console.specs.declared.Program.the-variants.{Map, Reduce, Quote}
 use Rattle.console.specs.Output.{job-of, output-of, Prints, answer-bytes}

@@ -13,11 +13,11 @@ use Rattle.text.proofs.Lowest as lowest
 use Rattle.text.proofs.WideFirst as wide-first
 use Rattle.text.proofs.WideFirst.{MeetsBothAt, became-8, became-same}
 use Rattle.jobs.specs.Jobs.{takes}
-use Rattle.jobs.proofs.JudgedBy.{judged-text, Unchanged, AsNow, text-as-now}
-use Rattle.jobs.proofs.Signless.{SignlessUnkept, signless-as-now}
-use Rattle.jobs.proofs.Lowest.{FewUnkept, lowest-as-now}
-use Rattle.jobs.proofs.Keepless.{keepless-as-now}
-use Rattle.jobs.proofs.WideFirst.{text-became}
+use Rattle.demands.proofs.JudgedBy.{judged-text, Unchanged, AsNow, text-as-now}
+use Rattle.demands.proofs.Signless.{SignlessUnkept, signless-as-now}
+use Rattle.demands.proofs.Lowest.{FewUnkept, lowest-as-now}
+use Rattle.demands.proofs.Keepless.{keepless-as-now}
+use Rattle.demands.proofs.WideFirst.{text-became}
 use Rattle.writing.specs.Decimal as form
 use Rattle.console.specs.declared.Program.{Program}
 use Rattle.console.specs.Output as now

@@ -14,7 +14,7 @@ use Rattle.forms.proofs.Ended.{three-numbers-ended}
 use Rattle.habits.specs.Habits.{Judgement, fine, away, Answer}
 use Rattle.habits.specs.Demands.{One}
 use Rattle.records.specs.declared.DoneTwo.{DoneTwo}
-use Rattle.jobs.proofs.Numbers.{from-1}
+use Rattle.demands.proofs.Numbers.{from-1}
 use Rattle.slips.specs.Slip.{judged, Slipped, Slip, Hands}
 use Rattle.console.specs.Output.{Fronts, Answers}
 use Rattle.printing.proofs.Told.{Told, refused, succeeded, told}

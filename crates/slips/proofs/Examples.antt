@@ -22,7 +22,7 @@ use Rattle.sliptext.specs.SlipText.{more, place, placed, slip-form, formed, sli
 use Rattle.habits.specs.Habits as habits
 use Rattle.habits.specs.Habits.{Judgement, fine, passes, require, size-rules, taken, told, text-judged, Lent, Exit, refusal, success, answered}
 use Rattle.habits.proofs.Says.{says-away, says-fine}
-use Rattle.jobs.specs.Examples.{typed}
+use Rattle.demands.specs.Examples.{typed}
 use Rattle.slips.specs.Slip.{ended, is-equal, gate-for-gate, same-end, checked, judged, Slipped, Slip}
 use Rattle.slips.specs.Examples.{Answer, accepted, away, Row, Shows, Correct, table}
 

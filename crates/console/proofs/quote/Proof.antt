@@ -6,7 +6,7 @@ use Prim.Native.Nat.{ℕ}
 use denote.Ref.{now}
 use Rattle.jobs.specs.Jobs.{mapping}
 use Rattle.jobs.specs.Handing.{Own}
-use Rattle.jobs.proofs.Quoting.{nothing}
+use Rattle.demands.proofs.Quoting.{nothing}
 use Rattle.console.proofs.quote.Statement.{statement}
 use Rattle.console.proofs.quote.Tie as tie
 

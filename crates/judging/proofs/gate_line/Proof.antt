@@ -4,7 +4,7 @@ use denote.Ref.{now}
 use lib.ListN.{drop}
 use Rattle.reading.specs.Seen.{seen-gate}
 use Rattle.tokens.proofs.Places.{told}
-use Rattle.judging.specs.Seen.{seen-verdict}
+use Rattle.rules.specs.Verdicts.{seen-verdict}
 use Rattle.judging.proofs.Lines.{gate-lines, line-malformed, line-sound, line-broken}
 use Rattle.judging.proofs.gate_line.Statement.{statement}
 use Rattle.judging.proofs.gate_line.Tie as tie

@@ -7,7 +7,7 @@ use Rattle.reading.specs.declared.TargetForm.{TargetForm}
 use Rattle.reading.specs.Seen.{seen-target, only-mct}
 use Rattle.gathering.proofs.Gathered.{negated-few}
 use Rattle.tokens.proofs.Places.{told}
-use Rattle.judging.specs.Seen.{seen-verdict}
+use Rattle.rules.specs.Verdicts.{seen-verdict}
 use Rattle.judging.proofs.Lines.{mct-lines, line-malformed, line-sound, line-broken, with-gathered-is, with-gathered-none}
 use Rattle.judging.proofs.mct_line.Statement.{statement}
 use Rattle.judging.proofs.mct_line.Tie as tie

@@ -4,7 +4,7 @@ use mathlib.Core.Path.{_≡_, refl, _∙_}
 use Prim.Native.Nat.{_-_, _≤_}
 use native.Mathlib.Omega.{arith}
 use lib.ListN.{length}
-use Rattle.merging.specs.Stacks.{Stacked}
+use Rattle.stacks.specs.Stacks.{Stacked}
 use Rattle.merging.proofs.Turning.{Merging, stacked-empty, merging-start, merging-code, merging-more, merging-end}
 use Rattle.merging.proofs.merge_partners.Statement.{statement}
 use Rattle.merging.proofs.merge_partners.Tie as tie

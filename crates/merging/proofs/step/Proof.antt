@@ -1,7 +1,7 @@
 -- `step` looks for the partner, and merges or pushes. Assumes nothing.
 use borrow.Author.Needs.{needs}
 use native.Mathlib.Omega.{arith}
-use Rattle.merging.specs.Merged.{PartnerAt}
+use Rattle.stacks.specs.Found.{PartnerAt}
 use Rattle.merging.proofs.Stepping.{outcome-merged, stepped-pushed}
 use Rattle.merging.proofs.Turning.{code-below}
 use Rattle.merging.proofs.step.Statement.{statement}
