@@ -1,7 +1,7 @@
 /* Yilgorza for C: maps a cascade of multiple-control Toffoli gates to a list of
-   NCV gates, or quotes its gate count alone, reduces such a list, inverts it, draws
-   it, joins two of them, says whether two are one circuit, and checks the steps that
-   are said to lead from one to another.
+   NCV gates, or quotes its gate count alone, reduces such a list, inverts it, joins
+   two of them, says whether two are one circuit, and checks the steps that are said
+   to lead from one to another.
 
    The functions are in the archive target/staticlib/libcapi.a, which
    `rt staticlib capi` proves and writes. `bin/shared-object ARCHIVE OUT` makes a
@@ -36,22 +36,18 @@ extern "C" {
 #endif
 
 /* Limits. A longer text, or a shorter list, is refused. An area of
-   YILGORZA_ANSWER_BYTES has room for every answer, one of YILGORZA_PAGE_BYTES for
-   every page; a shorter one is enough for a shorter answer. A page shows at most
-   YILGORZA_PAGE_GATES gates. */
+   YILGORZA_ANSWER_BYTES has room for every answer; a shorter one is enough for a
+   shorter answer. */
 #define YILGORZA_TEXT_BYTES 60000
 #define YILGORZA_LIST_RECORDS 4096
 #define YILGORZA_ANSWER_BYTES 45067
-#define YILGORZA_PAGE_BYTES 2432
-#define YILGORZA_PAGE_GATES 24
 
 /* The places of the outcome of a job over one text, an area of four numbers. */
 enum {
     YILGORZA_NUMBER = 0, /* 0, or the number of the refusal */
     YILGORZA_LINE = 1,   /* the line of the text that is refused, counted from 1;
-                            0 on success and with the numbers 1, 2, 10 and 14 */
-    YILGORZA_GATES = 2,  /* on success the gates of the reduced list, from page
-                            those of the circuit as read; else 0 */
+                            0 on success and with the numbers 1, 2 and 10 */
+    YILGORZA_GATES = 2,  /* on success the gates of the reduced list; else 0 */
     YILGORZA_BYTES = 3   /* on success the bytes written to the answer area, 0 if
                             map only quotes; else 0 */
 };
@@ -93,10 +89,10 @@ enum { YILGORZA_LESS = 0, YILGORZA_EQUAL = 1, YILGORZA_GREATER = 2 };
    Number 1 is tried first, then 2. Then the lines of the text are taken in order,
    `(keep ..)` among them, and each is tried against 3, 4, 5, 6, 8, 7 and 9, in this
    order; the first line that fails is returned. So a line that passes 3 to 6 and has
-   16 or more controls gets 8 if the gate may borrow no line, else 7. Then comes 14 of
-   a page, and then 10. Of several texts each is tried against 1 to 9, against 2 with
-   the list that is judged with it, if there is one, before the next one is looked at;
-   then comes 11, then the 9 of a join, or 12 and 13 of a slip, and 10 is the last. */
+   16 or more controls gets 8 if the gate may borrow no line, else 7. Then comes 10. Of
+   several texts each is tried against 1 to 9, against 2 with the list that is judged
+   with it, if there is one, before the next one is looked at; then comes 11, then the
+   9 of a join, or 12 and 13 of a slip, and 10 is the last. */
 enum {
     YILGORZA_SUCCESS = 0,
     YILGORZA_OVERLONG = 1,         /* the text has more than 60,000 bytes */
@@ -128,9 +124,8 @@ enum {
                                       not the same n */
     YILGORZA_NOT_ALLOWED = 12,     /* a step of a slip is not allowed on the circuit
                                       so far */
-    YILGORZA_OTHER_END = 13,       /* the slip ends at another circuit than the
+    YILGORZA_OTHER_END = 13        /* the slip ends at another circuit than the
                                       second */
-    YILGORZA_NO_SUCH_PAGE = 14     /* the circuit has no page of this number */
 };
 
 /* A record of the list is a gate as a number:
@@ -149,18 +144,16 @@ enum {
    may hold any bytes, and the areas may have any lengths. */
 
 /* The jobs over one text. Each takes a text of text_len bytes, a list of list_len
-   records, an answer area of answer_len bytes and an outcome of four numbers; page
-   also takes the number of a page.
+   records, an answer area of answer_len bytes and an outcome of four numbers.
 
    On success the list holds first the reduced list, gate by gate, and `not 0` in
    every later record; the answer area holds that list as a circuit text at its
    front, its other bytes unchanged. The outcome says how many gates that list has
    and how many bytes that text; the text has one line more than there are gates.
-   From page the list is the circuit as read, gate by gate, and the text the page.
 
    A refusal leaves the answer area unchanged. Numbers 1 and 2 leave the list
    unchanged, the others leave `not 0` in every record. So on success and with the
-   numbers 3 to 10 and 14 all list_len records are written, those past 4,096 too. */
+   numbers 3 to 10 all list_len records are written, those past 4,096 too. */
 
 /* Maps a cascade text to a circuit text.
 
@@ -189,41 +182,6 @@ void yilgorza_reduce(const uint8_t *text, size_t text_len, uint16_t *list,
 void yilgorza_invert(const uint8_t *text, size_t text_len, uint16_t *list,
                      size_t list_len, uint8_t *answer, size_t answer_len,
                      uint64_t *outcome);
-
-/* Draws one page, counted from 0, of a circuit text. The circuit is drawn as it is
-   given, gate by gate, and not reduced; to draw a reduced list, draw the answer of
-   map or reduce.
-
-   A page has a row of 76 bytes for each line of the circuit, in order: the number of
-   the line, right-aligned in two columns, a space, 24 cells of three columns, one for
-   each gate, and byte 10. So it has n * 76 bytes. In each row the cell of a gate is
-
-       -*-  if the line is its control
-       -+-  if the line is its target, and it is a not or a cn
-       -V-  if the line is its target, and it is a v
-       -W-  if the line is its target, and it is a vp
-       -|-  if the line is strictly between its control and its target
-       ---  if the line is none of these
-
-   and cells without a gate are `---`. These are the first eight cells of page 0 of
-   (v 1 2) (cn 0 1) (vp 1 2) (cn 0 1) (v 0 2) on three lines:
-
-        0 ----*-----*--*----------
-        1 -*--+--*--+--|----------
-        2 -V-----W-----V----------
-
-   Page p shows the gates 24 p + 1 to 24 p + 24, as far as the circuit has them. A
-   circuit with at most 24 gates, or with none, has one page, page 0; any other has
-   gates / 24 pages, rounded up. So 4,096 gates have the pages 0 to 170. The pages
-   determine the circuit: two circuits on the same number of lines with the same pages
-   are equal, gate for gate.
-
-   It refuses a text exactly as reduce does. Once the text is read, number 14 comes if
-   the circuit has no such page, whatever 64-bit number that is. The last is 10, which
-   goes by the length of the page; an answer area of length 0 is too short. */
-void yilgorza_page(const uint8_t *text, size_t text_len, uint16_t *list,
-                   size_t list_len, uint64_t page, uint8_t *answer,
-                   size_t answer_len, uint64_t *outcome);
 
 /* Joins two circuit texts, the first before the second, and reduces the circuit so
    made. It has one list, which is judged with the first text, and one answer area;

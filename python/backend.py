@@ -48,7 +48,7 @@ METADATA = f"""\
 Metadata-Version: 2.1
 Name: yilgorza
 Version: {VERSION}
-Summary: Cascades of Toffoli gates to reduced NCV lists; drawings, inverses, joins, slips
+Summary: Cascades of Toffoli gates to reduced lists of NCV gates; inverses, joins, slips
 Requires-Python: >=3.9
 Classifier: Operating System :: POSIX :: Linux
 Classifier: Typing :: Typed

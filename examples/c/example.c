@@ -1,11 +1,10 @@
 /* Maps the Toffoli gate, and prints the number of gates, the answer and the gate
-   list, all from one call. Draws the circuit, which has one page. Uncomputes it:
-   inverts the circuit, and joins the two, of which nothing is left. Quotes the same
-   gate written twice. Then compares a circuit that was ordered with two drawings of it
-   that came later, one of them with a line that the circuit does not have, and joins it
-   with one on another number of lines. Last it checks the steps that a customer has
-   sent with a reduction; then steps of which one is not allowed, and the first ones
-   with another drawing as their end. */
+   list, all from one call. Uncomputes it: inverts the circuit, and joins the two, of
+   which nothing is left. Quotes the same gate written twice. Then compares a circuit
+   that was ordered with two drawings of it that came later, one of them with a line
+   that the circuit does not have, and joins it with one on another number of lines.
+   Last it checks the steps that a customer has sent with a reduction; then steps of
+   which one is not allowed, and the first ones with another drawing as their end. */
 
 #include <inttypes.h>
 #include <stdio.h>
@@ -30,7 +29,7 @@ static const char wrong_steps[] = "(pass 2)\n(merge 2)\n";
 static uint16_t list[YILGORZA_LIST_RECORDS];
 static uint16_t second_list[YILGORZA_LIST_RECORDS];
 static uint8_t answer[YILGORZA_ANSWER_BYTES], inverse[YILGORZA_ANSWER_BYTES];
-static uint8_t joined[YILGORZA_ANSWER_BYTES], drawn[YILGORZA_PAGE_BYTES];
+static uint8_t joined[YILGORZA_ANSWER_BYTES];
 
 /* The name of a kind of gate, and of what compare finds. */
 static const char *const kinds[] = {"?", "v", "cn", "vp", "not"};
@@ -79,20 +78,6 @@ static int map(const char *text, size_t answer_len, uint64_t *outcome) {
     printf("map: %" PRIu64 " gates, %" PRIu64 " bytes\n", outcome[YILGORZA_GATES],
            outcome[YILGORZA_BYTES]);
     fwrite(answer, 1, outcome[YILGORZA_BYTES], stdout);
-    return 1;
-}
-
-/* Draws a page of the circuit text of so many bytes in the answer area, or says that
-   it has none of this number. */
-static int draw(size_t answer_len, uint64_t page) {
-    uint64_t outcome[4];
-    yilgorza_page(answer, answer_len, list, YILGORZA_LIST_RECORDS, page, drawn,
-                  YILGORZA_PAGE_BYTES, outcome);
-    if (!accepted(outcome))
-        return 0;
-    printf("page %" PRIu64 ": %" PRIu64 " gates, %" PRIu64 " bytes\n", page,
-           outcome[YILGORZA_GATES], outcome[YILGORZA_BYTES]);
-    fwrite(drawn, 1, outcome[YILGORZA_BYTES], stdout);
     return 1;
 }
 
@@ -153,9 +138,6 @@ int main(void) {
         return 1;
     for (uint64_t i = 0; i < outcome[YILGORZA_GATES]; i++)
         print_gate(list[i]);
-    /* A circuit of at most 24 gates has page 0 and no other. */
-    if (!draw(outcome[YILGORZA_BYTES], 0) || draw(outcome[YILGORZA_BYTES], 1))
-        return 1;
     if (!uncompute(outcome[YILGORZA_BYTES]))
         return 1;
     /* An answer area of length 0 asks for the quote only; its pointer may be null. */

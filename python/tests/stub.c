@@ -1,7 +1,7 @@
 /* Functions that answer what the library never does: to an empty text a circuit
-   of one gate whose number is no gate's, also where a page is asked for, and compare
-   and slip a count of 3; to any other the refusal 99, but map, reduce, invert and page
-   to one of two bytes no gates with the text of one, and join to such a one no text. */
+   of one gate whose number is no gate's, and compare and slip a count of 3; to any
+   other the refusal 99, but map, reduce and invert to one of two bytes no gates with
+   the text of one, and join to such a one no text. */
 
 #include <stddef.h>
 #include <stdint.h>
@@ -31,13 +31,6 @@ void yilgorza_reduce(const uint8_t *text, size_t text_len, uint16_t *list,
 void yilgorza_invert(const uint8_t *text, size_t text_len, uint16_t *list,
                      size_t list_len, uint8_t *answer, size_t answer_len,
                      uint64_t *outcome) {
-    yilgorza_map(text, text_len, list, list_len, answer, answer_len, outcome);
-}
-
-void yilgorza_page(const uint8_t *text, size_t text_len, uint16_t *list,
-                   size_t list_len, uint64_t page, uint8_t *answer,
-                   size_t answer_len, uint64_t *outcome) {
-    (void)page;
     yilgorza_map(text, text_len, list, list_len, answer, answer_len, outcome);
 }
 

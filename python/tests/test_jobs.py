@@ -1,6 +1,5 @@
 """The jobs on document 01's examples, on negated controls, on spare lines, on kept
-lines, on inverses, on pages, on joins and on slips, from the module and from the
-programs.
+lines, on inverses, on joins and on slips, from the module and from the programs.
 
 The environment variable YILGORZA_BIN names the folder of the programs; else it
 is target/bin of the repository.
@@ -21,7 +20,6 @@ import yilgorza
 from texts import (
     BETWEEN,
     CIRCUIT_REFUSALS,
-    EXPANDED,
     FALLING,
     FIVE,
     FIVE_MAPPED,
@@ -32,8 +30,6 @@ from texts import (
     KEPT_MAPPED,
     NEGATED,
     NINE,
-    PAGE_REFUSALS,
-    PAGES,
     PROGRAMS,
     QUOTES,
     REDUCTION_SLIPS,
@@ -53,7 +49,6 @@ from texts import (
     WIDE,
     WIDE_1,
     WIDE_2,
-    rows,
     typed,
 )
 from yilgorza import (
@@ -100,40 +95,6 @@ def passes_by_chance(chance: random.Random, text: bytes, tries: int) -> tuple:
             forms[place - 1 : place + 1] = forms[place], forms[place - 1]
             steps.append(f"(pass {place})")
     return typed(*steps), typed(head, *forms)
-
-
-def drawn(text: bytes, p: int) -> str:
-    """Page p of a circuit text, by document 02's words."""
-    head, *forms = text.decode().splitlines()
-    cells = [""] * int(head[len("(lines ") : -1])
-    for form in forms[24 * p : 24 * p + 24]:
-        kind, *numbers = form.strip("()").split()
-        *control, target = map(int, numbers)
-        mark = {"not": "-+-", "cn": "-+-", "v": "-V-", "vp": "-W-"}[kind]
-        named = [*control, target]
-        for line in range(len(cells)):
-            if line in control:
-                cells[line] += "-*-"
-            elif line == target:
-                cells[line] += mark
-            else:
-                between = min(named) < line < max(named)
-                cells[line] += "-|-" if between else "---"
-    return rows(*cells)
-
-
-def shown(pages: list) -> bytes:
-    """The circuit text whose gates these pages show."""
-    forms = []
-    for page in pages:
-        for column in list(zip(*page.splitlines()))[4::3]:
-            control = f"{column.index('*')} " if "*" in column else ""
-            kinds = {"+": "cn" if control else "not", "V": "v", "W": "vp"}
-            for target, mark in enumerate(column):
-                if mark in kinds:
-                    forms.append(f"({kinds[mark]} {control}{target})")
-    lines = pages[0].count("\n")
-    return typed(f"(lines {lines})", *forms)
 
 
 def flipped(cascade: str, pattern: int) -> int:
@@ -336,71 +297,6 @@ class Module(unittest.TestCase):
         self.assertEqual(
             yilgorza.join(half, yilgorza.invert(half).text).text, typed("(lines 32)")
         )
-
-    def test_pages(self):
-        for text, p, page in PAGES:
-            with self.subTest((text[:40], p)):
-                self.assertEqual(yilgorza.page(text, p), page)
-                self.assertEqual({len(row) for row in page.splitlines()}, {75})
-        example = REPOSITORY / "examples/texts/toffoli.circuit"
-        self.assertEqual(example.read_bytes(), EXPANDED)
-
-    def test_pages_by_chance(self):
-        # The pages show the gates, so the circuit can be read from them.
-        for lines, gates in itertools.product(
-            (1, 2, 3, 9, 10, 11, 32), (0, 1, 2, 23, 24, 25, 47, 48, 49, 100, 1000)
-        ):
-            chance = random.Random(f"{lines} {gates}")
-            text = circuit_by_chance(chance, lines, gates)
-            count = max(1, -(-gates // 24))
-            pages = [yilgorza.page(text, p) for p in range(count)]
-            self.assertEqual(pages, [drawn(text, p) for p in range(count)])
-            self.assertEqual(shown(pages), text)
-            with self.assertRaises(TurnedAway) as caught:
-                yilgorza.page(text, count)
-            self.assertEqual(caught.exception.form, "(turned-away 14 0)")
-
-    def test_the_longest_pages(self):
-        # 4,096 gates on 32 lines; each page has 24, and the last of 171 has 16.
-        text = circuit_by_chance(random.Random("pages"), 32, 4096)
-        pages = [yilgorza.page(text, p) for p in range(171)]
-        self.assertEqual({len(page) for page in pages}, {2432})
-        self.assertEqual(shown(pages), text)
-        self.assertEqual(shown(pages[170:]).count(b"\n"), 1 + 16)
-
-    def test_no_two_circuits_have_the_same_pages(self):
-        # All circuits of at most two gates, on at most three lines.
-        for lines, kinds in ((1, 1), (2, 8), (3, 21)):
-            numbers = range(lines)
-            forms = [f"(not {target})" for target in numbers] + [
-                f"({kind} {control} {target})"
-                for kind in ("v", "cn", "vp")
-                for control, target in itertools.permutations(numbers, 2)
-            ]
-            self.assertEqual(len(forms), kinds)
-            pages = {
-                yilgorza.page(typed(f"(lines {lines})", *gates), 0)
-                for count in range(3)
-                for gates in itertools.product(forms, repeat=count)
-            }
-            self.assertEqual(len(pages), 1 + kinds + kinds * kinds)
-
-    def test_refusals_of_pages(self):
-        def refused(text: bytes, p: int) -> tuple:
-            with self.assertRaises(TurnedAway) as caught:
-                yilgorza.page(text, p)
-            refusal = caught.exception
-            self.assertIsNone(refusal.text)
-            return refusal.number, refusal.line
-
-        for text, p, *told in PAGE_REFUSALS:
-            with self.subTest((text[:40], p)):
-                self.assertEqual(refused(text, p), tuple(told))
-        # A text that is refused by itself is told before, whatever the page.
-        for text, *told in CIRCUIT_REFUSALS:
-            for p in (0, 1, 171, 2**64 - 1, 2**64):
-                with self.subTest((text[:40], p)):
-                    self.assertEqual(refused(text, p), tuple(told))
 
     def test_joins(self):
         for first, second, joined in JOINS:
@@ -628,8 +524,6 @@ class Module(unittest.TestCase):
                 self.assertIs(found, order(first, second))
             for text, inverse in INVERSES:
                 self.assertEqual(yilgorza.invert(text).text, inverse)
-            for text, p, page in PAGES:
-                self.assertEqual(yilgorza.page(text, p), page)
             for text, other, joined in JOINS:
                 self.assertEqual(yilgorza.join(text, other).text, joined)
             yilgorza.slip(TWICE, TWICE_SLIP, NINE)
@@ -647,9 +541,8 @@ class Module(unittest.TestCase):
 class Programs(unittest.TestCase):
     """The programs write what the module gives."""
 
-    def written(self, program: str, text: bytes, *given: str) -> bytes:
-        command = [PROGRAMS / program, *given]
-        run = subprocess.run(command, input=text, stdout=subprocess.PIPE)
+    def written(self, program: str, text: bytes) -> bytes:
+        run = subprocess.run([PROGRAMS / program], input=text, stdout=subprocess.PIPE)
         self.assertEqual(run.returncode, 0)
         return run.stdout
 
@@ -701,16 +594,6 @@ class Programs(unittest.TestCase):
             with self.subTest(text):
                 self.assertEqual(self.written("invert", text), inverse)
 
-    def test_page(self):
-        for text, p, page in PAGES:
-            for given in (f"{p}", f"000{p}"):
-                with self.subTest((text[:40], given)):
-                    self.assertEqual(self.written("page", text, given), page.encode())
-        for text, p, number, line in PAGE_REFUSALS:
-            with self.subTest((text[:40], p)):
-                form = TurnedAway(number, line).form
-                self.assertEqual(self.written("page", text, str(p)), typed(form))
-
     def test_refusals_of_two_texts(self):
         for text, number, line in CIRCUIT_REFUSALS:
             first, second = TurnedAway(number, line, 1), TurnedAway(number, line, 2)
@@ -752,8 +635,6 @@ class Programs(unittest.TestCase):
                 form = typed(TurnedAway(number, line).form)
                 self.assertEqual(self.written("reduce", text), form)
                 self.assertEqual(self.written("invert", text), form)
-                for p in ("0", "1", str(2**64)):
-                    self.assertEqual(self.written("page", text, p), form)
 
     def test_refusals(self):
         for text, number, line in REFUSALS:

@@ -11,17 +11,16 @@ from texts import ARCHIVE, REPOSITORY
 
 STUB = Path(__file__).resolve().with_name("stub.c")
 
-# The jobs, and what each takes of a text.
+# The jobs, and how many texts each takes.
 JOBS = {
-    "map": "text",
-    "reduce": "text",
-    "quote": "text",
-    "compare": "text, text",
-    "invert": "text",
-    "page": "text, 0",
-    "join": "text, text",
-    "slip": "text, text, text",
-    "reduction_slip": "text",
+    "map": 1,
+    "reduce": 1,
+    "quote": 1,
+    "compare": 2,
+    "invert": 1,
+    "join": 2,
+    "slip": 3,
+    "reduction_slip": 1,
 }
 
 
@@ -45,8 +44,7 @@ class Named(unittest.TestCase):
     def error(self, path: object, text: bytes, job: str) -> str:
         return self.answer(
             path,
-            f"text = {text!r}\n"
-            f"try:\n    yilgorza.{job}({JOBS[job]})\n"
+            f"try:\n    yilgorza.{job}(*[{text!r}] * {JOBS[job]})\n"
             "except Exception as error:\n    print(type(error).__name__, error)",
         )
 
@@ -91,8 +89,6 @@ class Named(unittest.TestCase):
                     nonsense = "there is no order 3"
                 elif job == "slip":
                     nonsense = "an accepted slip has no count 3"
-                elif job == "page":
-                    nonsense = "the answer is no page"
                 self.assertEqual(
                     self.error(self.made, b"", job),
                     f"InternalError yilgorza: {nonsense}\n",
@@ -106,10 +102,6 @@ class Named(unittest.TestCase):
                 self.error(self.made, b"xx", job),
                 "InternalError yilgorza: the answer has not 0 gates\n",
             )
-        self.assertEqual(
-            self.error(self.made, b"xx", "page"),
-            "InternalError yilgorza: the answer is no page\n",
-        )
         self.assertEqual(
             self.error(self.made, b"xx", "join"),
             "InternalError yilgorza: the answer has no line 1\n",

@@ -1,10 +1,10 @@
-"""The kinds of objects that are taken as texts and as pages, and those that are not."""
+"""The kinds of objects that are taken as texts, and those that are not."""
 
 import array
 import unittest
 
 import yilgorza
-from texts import TOFFOLI, TOFFOLI_MAPPED, rows, typed
+from texts import TOFFOLI, TOFFOLI_MAPPED, typed
 from yilgorza import Circuit, Number, Ordering, TurnedAway
 
 CIRCUIT = typed("(lines 2)", "(v 0 1)", "(v 0 1)")
@@ -16,10 +16,6 @@ def compare_first(text: object) -> Ordering:
 
 def compare_second(text: object) -> Ordering:
     return yilgorza.compare(CIRCUIT, text)
-
-
-def first_page(text: object) -> str:
-    return yilgorza.page(text, 0)
 
 
 def join_first(text: object) -> Circuit:
@@ -49,7 +45,6 @@ JOBS = (
     yilgorza.quote,
     yilgorza.invert,
     yilgorza.reduction_slip,
-    first_page,
     compare_first,
     compare_second,
     join_first,
@@ -71,13 +66,6 @@ class Renamed(str):
 
     def encode(self, *_: str) -> bytes:
         return b""
-
-
-class Zero:
-    """A number that is no int, and says which it stands for."""
-
-    def __index__(self) -> int:
-        return 0
 
 
 class Taken(unittest.TestCase):
@@ -108,7 +96,6 @@ class Taken(unittest.TestCase):
                     self.assertEqual(joined.text, typed("(lines 2)"))
                 yilgorza.slip(text, "", text)
                 self.assertEqual(yilgorza.reduction_slip(text), b"(merge 1)\n")
-                self.assertEqual(first_page(text), rows("-*--*-", "-V--V-"))
         for text in (b"(merge 1)\n", "(merge 1)\n", bytearray(b"(merge 1)\n")):
             with self.subTest(type(text).__name__):
                 slip_steps(text)
@@ -218,20 +205,6 @@ class Taken(unittest.TestCase):
                         f"not {type(text).__name__}$",
                     ):
                         job(text)
-
-    def test_pages(self):
-        for p in (0, False, Zero()):
-            self.assertEqual(yilgorza.page(CIRCUIT, p), first_page(CIRCUIT))
-        for p in (None, "0", b"0", 0.0, [0], object(), print):
-            with self.subTest(repr(p)):
-                kind = type(p).__name__
-                with self.assertRaisesRegex(
-                    TypeError, f"^a page is an int, not {kind}$"
-                ):
-                    yilgorza.page(CIRCUIT, p)
-        for p in (-1, -24, -(2**64), -(10**5000)):
-            with self.assertRaisesRegex(ValueError, "^a page is not negative: "):
-                yilgorza.page(CIRCUIT, p)
 
 
 if __name__ == "__main__":

@@ -18,7 +18,6 @@ import yilgorza
 from texts import (
     CIRCUIT_REFUSALS,
     JOIN_REFUSALS,
-    PAGE_REFUSALS,
     QUOTES,
     REFUSALS,
     REPOSITORY,
@@ -35,7 +34,7 @@ class Refusals(unittest.TestCase):
         rest = page.partition("| r | in a customer's words |\n")[2]
         table = rest.partition("\n\n")[0]
         rows = re.findall(r"^\| (\d+) \| (.+) \|$", table, re.MULTILINE)
-        self.assertEqual(len(rows), 14)
+        self.assertEqual(len(rows), 13)
         self.assertEqual(
             [(number.value, number.words) for number in Number],
             [(int(number), words) for number, words in rows],
@@ -97,13 +96,6 @@ class Refusals(unittest.TestCase):
             "a gate is controlled by its own target",
         )
         with self.assertRaises(TurnedAway) as caught:
-            yilgorza.page("(lines 3)\n", 1)
-        self.assertEqual(
-            str(caught.exception),
-            "refusal 14: the circuit has no such page: pages are counted from 0, 24 "
-            "gates to a page",
-        )
-        with self.assertRaises(TurnedAway) as caught:
             yilgorza.join("(lines 3)\n", "(lines 2)\n")
         self.assertEqual(
             str(caught.exception),
@@ -136,7 +128,6 @@ class Refusals(unittest.TestCase):
         met |= {number for *_, number, _, _ in JOIN_REFUSALS}
         slips = {number for *_, number, _, _ in SLIP_REFUSALS}
         met |= slips
-        met |= {number for *_, number, _ in PAGE_REFUSALS}
         self.assertEqual(set(Number) - met, {Number.SHORT_LIST, Number.SHORT_ANSWER})
         # Besides those of its circuits, a slip gets these.
         self.assertEqual({number.value for number in slips}, {1, 3, 9, 11, 12, 13})
@@ -222,8 +213,6 @@ class Pickled(unittest.TestCase):
             texts = "(lines 1)\n", "(lines 1)\n(not 1)\n"
             future = pool.submit(yilgorza.compare, *texts)
             self.same(future.exception(timeout=60), 4, 2, 2)
-            future = pool.submit(yilgorza.page, "(lines 1)\n", 2**64)
-            self.same(future.exception(timeout=60), 14, 0)
             future = pool.submit(yilgorza.join, "(lines 1)\n", "(lines 2)\n")
             self.same(future.exception(timeout=60), 11, 0, 0)
             texts = "(lines 1)\n", "(pass 1)\n", "(lines 1)\n"
@@ -250,7 +239,7 @@ class Names(unittest.TestCase):
             self.assertIs(names[name], getattr(yilgorza, name))
 
     def test_jobs_by_the_name_of_the_module(self):
-        jobs = "map", "reduce", "quote", "compare", "invert", "page", "join", "slip"
+        jobs = "map", "reduce", "quote", "compare", "invert", "join", "slip"
         for name in (*jobs, "reduction_slip"):
             self.assertEqual(getattr(yilgorza, name).__module__, "yilgorza")
             self.assertNotIn(name, yilgorza.__all__)
@@ -275,9 +264,6 @@ class Names(unittest.TestCase):
         for name in ("map", "reduce", "quote", "invert"):
             hints = typing.get_type_hints(getattr(yilgorza, name))
             self.assertEqual(set(hints), {"text", "return"})
-        hints = typing.get_type_hints(yilgorza.page)
-        self.assertEqual(set(hints), {"text", "p", "return"})
-        self.assertIs(hints["return"], str)
         for job, given in ((yilgorza.compare, Ordering), (yilgorza.join, Circuit)):
             hints = typing.get_type_hints(job)
             self.assertEqual(set(hints), {"first", "second", "return"})
@@ -323,18 +309,17 @@ class Names(unittest.TestCase):
             self.assertEqual(names[found.name], str(found.value + 1))
         self.assertEqual(names["LIST_RECORDS"], str(_library.LIST_RECORDS))
         self.assertEqual(names["ANSWER_BYTES"], str(_library.ANSWER_BYTES))
-        self.assertEqual(names["PAGE_BYTES"], str(_library.PAGE_BYTES))
         for name in _library._FUNCTIONS:
             self.assertIn(f"void yilgorza_{name}(", header)
 
 
 class Documentation(unittest.TestCase):
     def test_examples_of_the_module(self):
-        self.assertEqual(doctest.testmod(yilgorza), (0, 10))
+        self.assertEqual(doctest.testmod(yilgorza), (0, 9))
 
     def test_examples_of_the_page(self):
         page = str(REPOSITORY / "python/README.md")
-        self.assertEqual(doctest.testfile(page, module_relative=False), (0, 49))
+        self.assertEqual(doctest.testfile(page, module_relative=False), (0, 42))
 
 
 if __name__ == "__main__":

@@ -24,8 +24,6 @@ TOFFOLI = typed("(lines 3)", "(mct (0 1) 2)")
 TOFFOLI_MAPPED = typed(
     "(lines 3)", "(v 0 2)", "(v 1 2)", "(cn 0 1)", "(vp 1 2)", "(cn 0 1)"
 )
-# The same gate as it is expanded.
-EXPANDED = typed("(lines 3)", "(v 1 2)", "(cn 0 1)", "(vp 1 2)", "(cn 0 1)", "(v 0 2)")
 TOFFOLI_GATES = (
     Gate(Kind.V, 0, 2),
     Gate(Kind.V, 1, 2),
@@ -240,100 +238,6 @@ INVERSES = [
     (TOFFOLI_UNDONE, TOFFOLI_MAPPED),
 ]
 
-
-def rows(*cells: str) -> str:
-    """The page whose rows begin with these cells, and show no gates after them."""
-    return "".join(f"{line:2} {row:-<72}\n" for line, row in enumerate(cells))
-
-
-# The page of EXPANDED as document 02 gives it.
-EXPANDED_DRAWN = typed(
-    " 0 ----*-----*--*----------------------------------------------------------",
-    " 1 -*--+--*--+--|----------------------------------------------------------",
-    " 2 -V-----W-----V----------------------------------------------------------",
-).decode()
-
-# Circuits and pages of them, drawn by hand.
-PAGES = [
-    (EXPANDED, 0, EXPANDED_DRAWN),
-    (TOFFOLI_MAPPED, 0, rows("-*-----*-----*-", "-|--*--+--*--+-", "-V--V-----W----")),
-    (typed("(lines 1)"), 0, rows("")),
-    (typed("(lines 32)"), 0, rows(*[""] * 32)),
-    (typed("(lines 1)", "(not 0)"), 0, rows("-+-")),
-    (typed("(lines 2)", "(cn 0 1)"), 0, rows("-*-", "-+-")),
-    (typed("(lines 2)", "(cn 1 0)"), 0, rows("-+-", "-*-")),
-    (
-        typed(
-            "(lines 4)",
-            "(v 0 3)",
-            "(v 3 0)",
-            "(vp 1 3)",
-            "(vp 3 1)",
-            "(cn 0 2)",
-            "(cn 2 0)",
-            "(not 1)",
-        ),
-        0,
-        rows(
-            "-*--V--------*--+----",
-            "-|--|--*--W--|--|--+-",
-            "-|--|--|--|--+--*----",
-            "-V--*--W--*----------",
-        ),
-    ),
-    (
-        typed("(lines 32)", "(cn 0 31)", "(vp 31 0)"),
-        0,
-        rows("-*--W-", *["-|--|-"] * 30, "-+--*-"),
-    ),
-    # As given: nothing is merged, and nothing brought into order.
-    (
-        typed("(lines 2)", "(v 0 1)", "(v 0 1)", "(not 1)"),
-        0,
-        rows("-*--*----", "-V--V--+-"),
-    ),
-    (typed("(lines 1)", "(not 0)", "(not 0)"), 0, rows("-+--+-")),
-    # Pages that are full, and the gate after them.
-    (typed("(lines 1)", *["(not 0)"] * 24), 0, rows("-+-" * 24)),
-    (typed("(lines 1)", *["(not 0)"] * 25), 0, rows("-+-" * 24)),
-    (typed("(lines 1)", *["(not 0)"] * 25), 1, rows("-+-")),
-    (
-        typed("(lines 2)", *["(v 0 1)"] * 48, "(vp 0 1)", "(not 0)"),
-        1,
-        rows("-*-" * 24, "-V-" * 24),
-    ),
-    (
-        typed("(lines 2)", *["(v 0 1)"] * 48, "(vp 0 1)", "(not 0)"),
-        2,
-        rows("-*--+-", "-W----"),
-    ),
-    (typed("(lines 1)", *["(not 0)"] * 4096), 169, rows("-+-" * 24)),
-    (typed("(lines 1)", *["(not 0)"] * 4096), 170, rows("-+-" * 16)),
-]
-
-# Circuits, and pages that they do not have, with number and line; of some 24 times the
-# page, kept in 64 bits, is less than the number of gates.
-PAGE_REFUSALS = [
-    *[
-        (typed("(lines 1)", *["(not 0)"] * gates), p, Number.NO_SUCH_PAGE, 0)
-        for gates, p in (
-            (0, 1),
-            (1, 1),
-            (24, 1),
-            (25, 2),
-            (48, 2),
-            (49, 3),
-            (4096, 171),
-            (4096, 4096),
-            (4096, 2**61),
-            (4096, 2**64 // 24 + 1),
-            (4096, 2**64 - 1),
-        )
-    ],
-    # Larger than the library takes.
-    *[(EXPANDED, p, Number.NO_SUCH_PAGE, 0) for p in (2**64, 2**64 + 1, 10**100)],
-]
-
 # Pairs of circuits and what they are joined to.
 JOINS = [
     (typed("(lines 7)"), typed("(lines 7)"), typed("(lines 7)")),
@@ -438,9 +342,9 @@ REDUCTION_SLIPS = [
     ],
     (typed("(lines 32)"), typed(), typed("(lines 32)")),
     (TOFFOLI_MAPPED, typed(), TOFFOLI_MAPPED),
-    # The last gate comes to the front.
+    # The Toffoli gate as it is expanded: the last gate comes to the front.
     (
-        EXPANDED,
+        typed("(lines 3)", "(v 1 2)", "(cn 0 1)", "(vp 1 2)", "(cn 0 1)", "(v 0 2)"),
         typed("(pass 4)", "(pass 3)", "(pass 2)", "(pass 1)"),
         TOFFOLI_MAPPED,
     ),
@@ -540,7 +444,10 @@ RISING = [
     [typed("(lines 2)", "(vp 0 1)"), typed("(lines 2)", "(cn 0 1)", "(v 0 1)")],
     [typed("(lines 3)")],
     [typed("(lines 3)", "(cn 0 1)", "(cn 1 2)", "(cn 0 1)")],
-    [TOFFOLI_MAPPED, EXPANDED],
+    [
+        TOFFOLI_MAPPED,
+        typed("(lines 3)", "(v 1 2)", "(cn 0 1)", "(vp 1 2)", "(cn 0 1)", "(v 0 2)"),
+    ],
     [
         typed("(lines 3)", "(cn 1 2)"),
         typed("(lines 3)", "(cn 0 2)", "(cn 1 2)", "(cn 0 2)"),

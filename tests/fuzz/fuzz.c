@@ -11,9 +11,7 @@
    also given without it; what map gives for it touches no kept line that no mct names, and
    as a circuit it is malformed. A slip is read and its steps are taken here too, which with
    what reduce says of the two circuits is all that slip has to give; where all steps are
-   allowed it is also given with the circuit that they end at, and is accepted. The pages of
-   a circuit are drawn here too, which with what reduce says of it is all that page has to
-   give.
+   allowed it is also given with the circuit that they end at, and is accepted.
 
    Memory. The archive is plain machine code, in which AddressSanitizer checks
    nothing but the memory functions of the C library. So the areas stand
@@ -44,8 +42,7 @@
    the second text's list (high four bits); byte 1 (bits 0 and 1) and 2: the length of the
    answer area; byte 3: at which end of the areas the page stands (bit 0), and whether the
    last line of the text (bits 1 to 3) and of the second text (bits 4 to 6) is repeated up
-   to a limit; and byte 1 whether that of the slip is (bits 4 to 6). Byte 2 is also the
-   number of a page.
+   to a limit; and byte 1 whether that of the slip is (bits 4 to 6).
    With `0000` it is lists of 4,096 records, an ample answer area and the texts as
    they stand. */
 
@@ -64,10 +61,10 @@ enum { LONGEST_TEXT = 60000, SHORTEST_LIST = 4096, AMPLE = 50000, BESIDE = 64 };
 /* The kinds of call: the jobs, and map with an empty answer area apart. Each refusal of
    a second text is counted under the number that follows that of its job, of a third
    under the next. */
-enum call { MAP, REDUCE, MAP_EMPTY_AREA, COMPARE, INVERT = COMPARE + 2, JOIN, SLIP = JOIN + 2, PAGE = SLIP + 3, CALLS };
+enum call { MAP, REDUCE, MAP_EMPTY_AREA, COMPARE, INVERT = COMPARE + 2, JOIN, SLIP = JOIN + 2, CALLS = SLIP + 3 };
 static const char *const call_names[] = {
     [MAP] = "map", [REDUCE] = "reduce", [MAP_EMPTY_AREA] = "map with an empty area",
-    [COMPARE] = "compare", [INVERT] = "invert", [JOIN] = "join", [SLIP] = "slip", [PAGE] = "page",
+    [COMPARE] = "compare", [INVERT] = "invert", [JOIN] = "join", [SLIP] = "slip",
 };
 
 static void fail(enum call call, const char *what)
@@ -89,9 +86,6 @@ static unsigned long inverted, joined, joins_of_other_lines, joins_over;
 /* How many slips with steps were accepted, and how many were refused by 12, by 13, by 11 and
    by a 3 or 9 of their own. */
 static unsigned long slips_accepted, slips_not_allowed, slips_elsewhere, slips_of_other_lines, slips_not_read;
-/* How many pages with gates were drawn, how many of them after the first, and how many were
-   refused by 14 and by 10. */
-static unsigned long pages_drawn, later_pages_drawn, pages_missing, pages_short;
 
 /* ---- Guidance ---- */
 
@@ -150,8 +144,6 @@ static void tell_blocks(void)
             joined, joins_of_other_lines, joins_over);
     fprintf(stderr, "fuzz: %lu slips with steps accepted, %lu refused by 12, %lu by 13, %lu by 11, %lu by their lines\n",
             slips_accepted, slips_not_allowed, slips_elsewhere, slips_of_other_lines, slips_not_read);
-    fprintf(stderr, "fuzz: %lu pages with gates drawn, %lu of them after the first, %lu refused by 14, %lu by 10\n",
-            pages_drawn, later_pages_drawn, pages_missing, pages_short);
 }
 
 int LLVMFuzzerInitialize(int *argc, char ***argv)
@@ -1228,121 +1220,6 @@ static void slips_of_two_texts(struct slip *slip, const struct side *sides, int 
     follow(&sides[1], slip, &sides[0], at_front, junk, &end);
 }
 
-/* ---- Pages ---- */
-
-enum { PAGE_GATES = 24, ROW = 2 + 1 + 3 * PAGE_GATES + 1 };
-
-/* What stands for a gate in the middle of its cell, in the row of a line. */
-static uint8_t mark_of(uint16_t record, unsigned line)
-{
-    unsigned power = record % 4, slot = record / 4 % 33, target = record / 132;
-    if (line == target)
-        return power == 1 ? 'V' : power == 3 ? 'W' : '+';
-    if (slot == 0)
-        return '-';
-    if (line == slot - 1)
-        return '*';
-    /* Between the two it is past one of them alone. */
-    return (line > slot - 1) != (line > target) ? '|' : '-';
-}
-
-/* The page that begins with the gate at this place, counted from 0. */
-static size_t put_page(uint8_t *rows, unsigned lines, const struct gates *gates, size_t first)
-{
-    size_t end = 0;
-    for (unsigned line = 0; line < lines; line++) {
-        if (line < 10)
-            rows[end++] = ' ';
-        end += put_number(rows + end, line);
-        rows[end++] = ' ';
-        for (size_t i = first; i < first + PAGE_GATES; i++) {
-            rows[end++] = '-';
-            rows[end++] = i < gates->count ? mark_of(gates->records[i], line) : '-';
-            rows[end++] = '-';
-        }
-        rows[end++] = '\n';
-    }
-    return end;
-}
-
-/* The number of the last page of a circuit. */
-static uint64_t last_page(const struct gates *gates)
-{
-    return gates->count ? (gates->count - 1) / PAGE_GATES : 0;
-}
-
-/* One page of a text, with the gates that stand in it if reduce accepts it. */
-static void draw(const struct side *side, const struct gates *gates, uint64_t page, size_t answer_length, int at_front,
-                 uint8_t junk)
-{
-    static uint8_t rows[32 * ROW];
-    struct area text_area, list_area, answer_area;
-    uint64_t outcome[6] = { 99, 99, 99, 99, 99, 99 };
-    /* The refusal of the text, else 14, else 10, else the gates and the bytes. */
-    uint64_t due[4] = { side->reduced.number, side->reduced.line, 0, 0 };
-    if (!due[0] && page > last_page(gates)) {
-        due[0] = 14;
-    } else if (!due[0] && answer_length < lines_of(side->text) * ROW) {
-        due[0] = 10;
-    } else if (!due[0]) {
-        due[2] = gates->count;
-        due[3] = put_page(rows, lines_of(side->text), gates, PAGE_GATES * page);
-    }
-    lend(&text_area, side->length, at_front, junk);
-    lend(&list_area, side->list_length * sizeof(uint16_t), at_front, junk);
-    lend(&answer_area, answer_length, at_front && answer_length, junk);
-    if (side->length)
-        memcpy(text_area.bytes, side->text, side->length);
-    const uint16_t *list = (const uint16_t *)list_area.bytes;
-    yilgorza_page(text_area.bytes, side->length, (uint16_t *)list_area.bytes, side->list_length, page,
-                  answer_area.bytes, answer_length, outcome + 1);
-    if (outcome[0] != 99 || outcome[5] != 99)
-        fail(PAGE, "a word beside the outcome was written");
-    if (memcmp(outcome + 1, due, sizeof due))
-        fail(PAGE, "reduce, the gates or the area say otherwise");
-    uint16_t rest = due[0] == 1 || due[0] == 2 ? (uint16_t)(junk << 8 | junk) : YILGORZA_NOT_0;
-    if (memcmp(list, gates->records, due[2] * sizeof *list))
-        fail(PAGE, "the list isn't the circuit as it stands");
-    if (!all_records(list + due[2], side->list_length - due[2], rest))
-        fail(PAGE, "the records after the list");
-    if (memcmp(answer_area.bytes, rows, due[3]))
-        fail(PAGE, "another page");
-    if (!all_bytes(answer_area.bytes + due[3], answer_length - due[3], junk))
-        fail(PAGE, "the bytes after the page");
-    if (side->length && memcmp(text_area.bytes, side->text, side->length))
-        fail(PAGE, "the text was changed");
-    if (!beside_unchanged(&text_area, junk) || !beside_unchanged(&list_area, junk)
-        || !beside_unchanged(&answer_area, junk))
-        fail(PAGE, "bytes beside an area were written");
-    take_back(&answer_area);
-    take_back(&list_area);
-    take_back(&text_area);
-    pages_drawn += due[2] > 0;
-    later_pages_drawn += due[2] > 0 && page > 0;
-    pages_missing += due[0] == 14;
-    pages_short += due[0] == 10;
-    count_outcome(PAGE, due[0], due[1], 0, due[2]);
-}
-
-/* The first page of a text, the last one and the one after it, the one that the input
-   names, and two of which 24p is that of the input's modulo 2^64 and modulo 2^32; with an
-   area that is ample, that fits, that is one byte short, or that the input names. */
-static void pages_of_text(const uint8_t *choices, const struct side *side, int at_front, uint8_t junk)
-{
-    static struct gates gates;
-    size_t fitting = ROW;
-    gates.count = 0;
-    if (!side->reduced.number) {
-        read_gates(side->text, side->length, &gates);
-        fitting *= lines_of(side->text);
-    }
-    uint64_t named = choices[2], last = last_page(&gates), times = named % 7 + 1;
-    uint64_t pages[] = { 0, last, last + 1, named, named + (times << 61), named + (times << 29) };
-    size_t lengths[] = { AMPLE, fitting, fitting - 1, choices[2] };
-    for (size_t i = 0; i < sizeof pages / sizeof *pages; i++)
-        draw(side, &gates, pages[i], lengths[choices[1] & 3], at_front, junk);
-}
-
 /* ---- Inputs ---- */
 
 /* Of the choices the fourth is another one for a slip. */
@@ -1495,7 +1372,6 @@ int LLVMFuzzerTestOneInput(const uint8_t *data, size_t size)
     joins_of_two_texts(data, sides, at_front, junk);
     check_inverse(&sides[0], at_front, junk);
     slips_of_two_texts(&slip, sides, at_front, junk);
-    pages_of_text(data, &sides[0], at_front, junk);
     return 0;
 }
 
@@ -1505,7 +1381,6 @@ int LLVMFuzzerTestOneInput(const uint8_t *data, size_t size)
 enum { FEWEST_SIGNED = 5, FEWEST_WIDE = 3, FEWEST_INVERTED = 20, FEWEST_JOINED = 40, FEWEST_REFUSED = 4 };
 enum { FEWEST_KEPT = 10, FEWEST_KEPT_REFUSED = 2 };
 enum { FEWEST_SLIPS = 20, FEWEST_SLIPS_REFUSED = 10 };
-enum { FEWEST_PAGES = 100, FEWEST_LATER_PAGES = 20, FEWEST_PAGES_REFUSED = 20 };
 
 int main(int argc, char **argv)
 {
@@ -1545,12 +1420,6 @@ int main(int argc, char **argv)
         || slips_not_read < FEWEST_SLIPS_REFUSED) {
         fprintf(stderr, "fuzz: FAILED: only %lu slips were accepted, %lu refused by 12, %lu by 13, %lu by 11, %lu by their lines\n",
                 slips_accepted, slips_not_allowed, slips_elsewhere, slips_of_other_lines, slips_not_read);
-        return 1;
-    }
-    if (pages_drawn < FEWEST_PAGES || later_pages_drawn < FEWEST_LATER_PAGES || pages_missing < FEWEST_PAGES_REFUSED
-        || pages_short < FEWEST_PAGES_REFUSED) {
-        fprintf(stderr, "fuzz: FAILED: only %lu pages were drawn, %lu of them after the first, %lu refused by 14, %lu by 10\n",
-                pages_drawn, later_pages_drawn, pages_missing, pages_short);
         return 1;
     }
     printf("%d passed, 0 failed\n", argc - 1);

@@ -118,79 +118,6 @@ static int lent(enum job job, struct side s, struct room room, uint64_t number,
            holds(list, s.records, number, gates);
 }
 
-/* The gates of a circuit that is to be drawn, each as control, which is -1 for a NOT,
-   target and power. */
-static struct {
-    int control, target, power;
-} given[YILGORZA_LIST_RECORDS];
-
-static void read_gates(const struct text *t) {
-    const char *form = (const char *)t->bytes;
-    for (size_t i = 0; i < t->read; i++) {
-        char word[4];
-        form = strchr(form, '\n') + 1;
-        if (sscanf(form, "(%3[a-z] %d %d)", word, &given[i].control,
-                   &given[i].target) == 2) {
-            given[i].target = given[i].control;
-            given[i].control = -1;
-        }
-        given[i].power = word[0] != 'v' ? 2 : word[1] == 'p' ? 3 : 1;
-    }
-}
-
-/* What the row of this line shows of gate i. */
-static char mark(size_t i, int line) {
-    int control = given[i].control, target = given[i].target;
-    if (line == control)
-        return '*';
-    if (line == target)
-        return " V+W"[given[i].power];
-    return control >= 0 && (line < control) != (line < target) ? '|' : '-';
-}
-
-/* Draws a page of so many of these gates on so many lines. */
-static void draw(uint8_t *page, int lines, size_t first, size_t count) {
-    for (int line = 0; line < lines; line++) {
-        page += sprintf((char *)page, "%2d ", line);
-        for (size_t i = first; i < first + YILGORZA_PAGE_GATES; i++)
-            page += sprintf((char *)page, "-%c-", i < count ? mark(i, line) : '-');
-        *page++ = '\n';
-    }
-}
-
-/* The same of page, with the gates that were read: whether the outcome is this one, the
-   list holds the gates, and the answer area has the page. */
-static int lent_page(struct side s, uint64_t page, struct room room,
-                     const uint64_t *numbers) {
-    static uint8_t left[YILGORZA_ANSWER_BYTES];
-    const uint16_t *records = last(list, s.records);
-    size_t count = numbers[YILGORZA_GATES];
-    int good;
-    paint_list(list);
-    memset(answer, 0xfe, YILGORZA_ANSWER_BYTES);
-    memset(outcome, 0xfe, 4 * sizeof *outcome);
-    yilgorza_page(s.bytes, s.length, last(list, s.records), s.records, page, room.start,
-                  room.length, outcome);
-    memset(left, 0xfe, sizeof left);
-    if (numbers[YILGORZA_NUMBER] == 0)
-        draw(left + (room.start - answer), numbers[YILGORZA_BYTES] / 76,
-             page * YILGORZA_PAGE_GATES, count);
-    good = memcmp(outcome, numbers, 4 * sizeof *outcome) == 0 &&
-           memcmp(answer, left, sizeof left) == 0 &&
-           holds(list, s.records, numbers[YILGORZA_NUMBER], count);
-    for (size_t i = 0; i < count; i++)
-        good &= records[i] == (given[i].target * 33 + given[i].control + 1) * 4 +
-                                  given[i].power;
-    return good;
-}
-
-/* A refusal of page. */
-static int refused_page(struct side s, uint64_t page, struct room room, uint64_t number,
-                        uint64_t line) {
-    uint64_t numbers[] = {number, line, 0, 0};
-    return lent_page(s, page, room, numbers);
-}
-
 /* The same of compare: whether the outcome is this one, and both lists hold what they
    are to hold. */
 static int lent_two(struct side first, struct side second, uint64_t number,
@@ -326,61 +253,6 @@ static void test_empty_areas(const uint8_t *const *bytes) {
                  texts[i].name);
         verdict(good, name);
     }
-}
-
-static void test_page(const uint8_t *const *bytes) {
-    static const uint8_t long_text[YILGORZA_TEXT_BYTES + 1] = "(";
-    static const uint8_t one[] = "(lines 1)\n";
-    static const uint64_t short_answer[4] = {10}, drawn[4] = {0, 0, 0, 76};
-    const struct side none = {NULL, 0, 0, 0}, empty = {NULL, 0, ENOUGH, 0},
-                      overlong = {long_text, sizeof long_text, ENOUGH, 0},
-                      good = {one, 10, ENOUGH, 0}, bare = {one, 10, 0, 0},
-                      shorter = {one, 10, ENOUGH - 1, 0},
-                      longer = {one, 10, RECORDS, 0};
-    const struct room whole = last_bytes(YILGORZA_ANSWER_BYTES),
-                      middle = {answer + YILGORZA_ANSWER_BYTES / 2, 0};
-    char name[120];
-
-    for (int i = 0; i < TEXTS; i++) {
-        int all = 1;
-        read_gates(&texts[i]);
-        for (int p = 0; p < PAGES; p++) {
-            struct side s = {bytes[i], texts[i].length, ENOUGH, 0};
-            uint64_t e[4];
-            paged(&texts[i], pages[p], e);
-            /* With less room than for a page 10 comes, after every other number. */
-            const uint64_t *less = e[YILGORZA_NUMBER] ? e : short_answer;
-            size_t length = e[YILGORZA_NUMBER] ? 1 : e[YILGORZA_BYTES];
-            all &= lent_page(s, pages[p], whole, e) &&
-                   lent_page(s, pages[p], last_bytes(length), e) &&
-                   lent_page(s, pages[p], last_bytes(length - 1), less) &&
-                   lent_page(s, pages[p], middle, less);
-            s.records = RECORDS;
-            all &= lent_page(s, pages[p], last_bytes(YILGORZA_PAGE_BYTES), e) &&
-                   lent_page(s, pages[p], last_bytes(0), less);
-        }
-        snprintf(name, sizeof name, "pages of %s", texts[i].name);
-        verdict(all, name);
-    }
-
-    verdict(refused_page(empty, 0, whole, 3, 1) && refused_page(bare, 0, whole, 2, 0) &&
-                refused_page(none, 0, last_bytes(0), 2, 0) &&
-                refused_page(empty, 1, last_bytes(0), 3, 1) &&
-                refused_page(good, 1, last_bytes(0), 14, 0) &&
-                refused_page(good, 0, last_bytes(0), 10, 0),
-            "page with pointers that are null and lengths of 0");
-    verdict(refused_page(good, 0, last_bytes(1), 10, 0) &&
-                refused_page(good, 0, last_bytes(75), 10, 0) &&
-                lent_page(good, 0, last_bytes(76), drawn) &&
-                lent_page(longer, 0, last_bytes(76), drawn),
-            "page with an area of one byte, too short by one, and just long enough");
-    verdict(refused_page(shorter, 0, whole, 2, 0) &&
-                refused_page(shorter, 1, last_bytes(0), 2, 0) &&
-                refused_page(overlong, 1, last_bytes(0), 1, 0),
-            "page with a list or a text of a wrong length, the list left as it is");
-    verdict(refused_page(longer, 1, last_bytes(75), 14, 0) &&
-                refused_page(longer, UINT64_MAX, whole, 14, 0),
-            "a page that there is not, `not 0` in all of the list");
 }
 
 static void test_compare(const uint8_t *const *bytes) {
@@ -588,7 +460,6 @@ int main(void) {
         bytes[i] = fixed(&texts[i]);
     test_jobs(bytes);
     test_empty_areas(bytes);
-    test_page(bytes);
     test_compare(bytes);
     test_join(bytes);
     test_slips(bytes);

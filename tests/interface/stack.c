@@ -1,10 +1,9 @@
-/* How much stack a call takes: each function runs, on each text, for some numbers of
-   pages where it draws, on each pair of texts or each pair with some slips, on a stack
-   of its own between two pages that may not be touched. The stack is painted before the
-   call; the lowest byte that has changed after it is as far as the call came. It is
-   painted twice, in two colours, since a call may write one of them. The stack has
-   twice the 96 KiB that the header states, so that a call that takes more of it is
-   measured too. */
+/* How much stack a call takes: each function runs, on each text, each pair of texts or
+   each pair with some slips, on a stack of its own between two pages that may not be
+   touched. The stack is painted before the call; the lowest byte that has changed after
+   it is as far as the call came. It is painted twice, in two colours, since a call may
+   write one of them. The stack has twice the 96 KiB that the header states, so that a
+   call that takes more of it is measured too. */
 
 #include <sys/mman.h>
 #include <ucontext.h>
@@ -15,11 +14,10 @@
 enum { STATED = 96 * 1024, STACK = 2 * STATED };
 
 /* The functions: the jobs over one text, and these. */
-enum { PAGE = JOBS, COMPARE, JOIN, SLIP, GATE, FUNCTIONS };
+enum { COMPARE = JOBS, JOIN, SLIP, GATE, FUNCTIONS };
 
-static const char *const names[] = {"map",  "reduce",  "invert", "quote only",
-                                    "page", "compare", "join",   "slip",
-                                    "gate"};
+static const char *const names[] = {"map",     "reduce", "invert", "quote only",
+                                    "compare", "join",   "slip",   "gate"};
 
 static uint16_t list[YILGORZA_LIST_RECORDS], second_list[YILGORZA_LIST_RECORDS];
 static uint8_t answer[YILGORZA_ANSWER_BYTES];
@@ -32,15 +30,11 @@ static ucontext_t here, there;
 static int function;
 static const struct text *read_text, *second_text, *read_slip;
 static size_t list_len, second_list_len, answer_len;
-static uint64_t drawn_page;
 
 static void call(void) {
     uint8_t gate[3];
     if (function == GATE)
         yilgorza_gate(4223, gate);
-    else if (function == PAGE)
-        yilgorza_page(read_text->bytes, read_text->length, list, list_len, drawn_page,
-                      answer, answer_len, outcome);
     else if (function == COMPARE)
         yilgorza_compare(read_text->bytes, read_text->length, list, list_len,
                          second_text->bytes, second_text->length, second_list,
@@ -96,31 +90,6 @@ static size_t most_of_job(void) {
         most = larger(most, used());
         expected(function, read_text, numbers);
         if (memcmp(outcome, numbers, sizeof numbers)) {
-            verdict(0, read_text->name);
-            return 0;
-        }
-        list_len--;
-        most = larger(most, used());
-        list_len++;
-        answer_len = 0;
-        most = larger(most, used());
-    }
-    return most;
-}
-
-/* The most of page over all texts and numbers, with a list and an area that are long
-   enough, and with either of them too short. */
-static size_t most_of_page(void) {
-    size_t most = 0;
-    for (int i = 0; i < TEXTS * PAGES; i++) {
-        uint64_t numbers[4];
-        read_text = &texts[i / PAGES];
-        drawn_page = pages[i % PAGES];
-        list_len = YILGORZA_LIST_RECORDS;
-        answer_len = YILGORZA_PAGE_BYTES;
-        most = larger(most, used());
-        paged(read_text, drawn_page, numbers);
-        if (memcmp(outcome, numbers, sizeof outcome)) {
             verdict(0, read_text->name);
             return 0;
         }
@@ -240,7 +209,6 @@ int main(void) {
     make_texts();
     for (function = 0; function < FUNCTIONS; function++) {
         most = function == GATE      ? used()
-               : function == PAGE    ? most_of_page()
                : function == COMPARE ? most_of_compare()
                : function == JOIN    ? most_of_join()
                : function == SLIP    ? most_of_slip()

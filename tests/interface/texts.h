@@ -11,10 +11,10 @@
 #include "yilgorza.h"
 
 /* A text, and the number and the line with which each job over one text answers it,
-   invert and page as reduce. One that is accepted also has the number of gates of its
-   reduced list, of which the inverse has as many; and a circuit its place in the order
-   of compare, the same for two that are one circuit, its number of lines, and its
-   number of gates as read. */
+   invert as reduce. One that is accepted also has the number of gates of its reduced
+   list, of which the inverse has as many; and a circuit its place in the order of
+   compare, the same for two that are one circuit, its number of lines, and its number
+   of gates as read. */
 struct text {
     const char *name;
     uint8_t bytes[YILGORZA_TEXT_BYTES + 1];
@@ -24,7 +24,7 @@ struct text {
     size_t gates, read;
 };
 
-enum { TEXTS = 44 };
+enum { TEXTS = 42 };
 static struct text texts[TEXTS];
 
 static void add(struct text *t, const char *words) {
@@ -98,7 +98,7 @@ static void make_slips(void) {
 }
 
 /* The longest work of each job, every refusal of a text, circuits to compare,
-   document 01's cascades with their quotes, kept lines, and circuits to draw. */
+   document 01's cascades with their quotes, and kept lines. */
 static void make_texts(void) {
     static const char wide[] = "(mct (0 1 2 3 4 5 6 7 8 9 10 11 12 13 14) 15)\n";
     struct text *t;
@@ -118,14 +118,14 @@ static void make_texts(void) {
     for (i = 0; i < 256; i++)
         add(t, "(mct (27 28 29 30) 31)\n");
     /* No two neighbours pass or merge, so nothing gets shorter. */
-    t = circuit(3, "4,096 gates that stay", 13, 4096);
+    t = circuit(3, "4,096 gates that stay", 11, 4096);
     add(t, "(lines 32)\n");
     for (i = 0; i < 4096; i++)
         add(t, i % 2 ? "(vp 31 30)\n" : "(vp 30 31)\n");
     /* Each of the last gates passes all others, and four of a kind vanish. Of the
        others none passes so far that it meets its like. The list begins with
        cn 30 31, which comes before vp 30 31. */
-    t = circuit(4, "4,096 gates, half of which travel", 11, 2048);
+    t = circuit(4, "4,096 gates, half of which travel", 9, 2048);
     add(t, "(lines 32)\n");
     for (i = 0; i < 512; i++)
         add(t, "(cn 30 31)\n(cn 31 30)\n(v 30 5)\n(v 6 30)\n");
@@ -196,11 +196,11 @@ static void make_texts(void) {
         "24 25 26 27 28 29 30) 31)\n");
     /* The front half of 3, and its inverse, which begins with target 30. Joined they
        are as long as may be, and one after the other vanishes. */
-    t = circuit(34, "2,048 gates that stay", 12, 2048);
+    t = circuit(34, "2,048 gates that stay", 10, 2048);
     add(t, "(lines 32)\n");
     for (i = 0; i < 2048; i++)
         add(t, i % 2 ? "(vp 31 30)\n" : "(vp 30 31)\n");
-    t = circuit(35, "2,048 gates that undo these", 10, 2048);
+    t = circuit(35, "2,048 gates that undo these", 8, 2048);
     add(t, "(lines 32)\n");
     for (i = 0; i < 2048; i++)
         add(t, i % 2 ? "(v 30 31)\n" : "(v 31 30)\n");
@@ -220,15 +220,6 @@ static void make_texts(void) {
     add(t, "(lines 32)\n(keep 0 17 18 19 20 21 22 23 24 25 26 27 28 29 30 31)\n");
     for (i = 0; i < 11; i++)
         add(t, wide);
-    /* A page of gates, which vanish, and one gate more than a page, which undo
-       themselves. */
-    t = circuit(42, "24 gates", 8, 0);
-    add(t, "(lines 24)\n");
-    add_times(t, "(cn 0 23)\n(cn 23 0)\n", 6);
-    add_times(t, "(cn 23 0)\n(cn 0 23)\n", 6);
-    t = circuit(43, "25 gates", 9, 25);
-    add(t, "(lines 25)\n(cn 24 1)\n");
-    add_times(t, "(cn 1 24)\n(cn 24 1)\n", 12);
 
     make_slips();
     for (t = texts; t < texts + TEXTS; t++)
@@ -268,26 +259,6 @@ static void expected(enum job job, const struct text *t, uint64_t *numbers) {
     numbers[YILGORZA_NUMBER] = given[0];
     numbers[YILGORZA_LINE] = given[1];
     numbers[YILGORZA_GATES] = given[0] ? 0 : t->gates;
-}
-
-/* Numbers of pages: the first ones, the last of 2,048 and of 4,096 gates with the next,
-   and some that no circuit has. In 64 bits 24 times the first of these is 8, and 24
-   times the second is 0. */
-static const uint64_t pages[] = {
-    0, 1, 2, 85, 86, 170, 171, UINT64_MAX / 24 + 1, (uint64_t)1 << 61, UINT64_MAX};
-enum { PAGES = sizeof pages / sizeof *pages };
-
-/* The four numbers that the text is to get from page, with a list and an area that are
-   long enough: the refusal of reduce, else 14. */
-static void paged(const struct text *t, uint64_t page, uint64_t *numbers) {
-    int has = page == 0 || page < (t->read + 23) / 24;
-    memset(numbers, 0, 4 * sizeof *numbers);
-    numbers[YILGORZA_NUMBER] = t->reduced[0] ? t->reduced[0] : has ? 0 : 14;
-    numbers[YILGORZA_LINE] = t->reduced[1];
-    if (numbers[YILGORZA_NUMBER] == 0) {
-        numbers[YILGORZA_GATES] = t->read;
-        numbers[YILGORZA_BYTES] = t->lines * 76;
-    }
 }
 
 /* The order of two circuits by their places. */

@@ -6,9 +6,9 @@
 
 #include "texts.h"
 
-/* The jobs over one text, with page; compare and join of a text with the next, and slip
-   from a text to itself. */
-enum { PAGE = JOBS, COMPARE, JOIN, SLIP, ALL_JOBS };
+/* The jobs over one text, compare and join of a text with the next, and slip from a text
+   to itself. */
+enum { COMPARE = JOBS, JOIN, SLIP, ALL_JOBS };
 
 enum { THREADS = 2, ROUNDS = 60, CALLS = ALL_JOBS * TEXTS };
 
@@ -29,15 +29,11 @@ static const struct text *next_of(int call) {
 }
 
 static const struct text *slip_of(int call) { return &slips[call / ALL_JOBS % SLIPS]; }
-static uint64_t page_of(int call) { return pages[call / ALL_JOBS % PAGES]; }
 
 static void answer_one(int call, struct lent *l) {
     const struct text *t = text_of(call), *n = next_of(call);
     memset(l, 0, sizeof *l);
-    if (job_of(call) == PAGE)
-        yilgorza_page(t->bytes, t->length, l->list, YILGORZA_LIST_RECORDS,
-                      page_of(call), l->answer, YILGORZA_ANSWER_BYTES, l->outcome);
-    else if (job_of(call) == COMPARE)
+    if (job_of(call) == COMPARE)
         yilgorza_compare(t->bytes, t->length, l->list, YILGORZA_LIST_RECORDS, n->bytes,
                          n->length, l->second_list, YILGORZA_LIST_RECORDS,
                          l->outcome);
@@ -56,16 +52,14 @@ static void answer_one(int call, struct lent *l) {
 /* Whether the outcome is the one asked for; the bytes of a text are not known. */
 static int is_expected(int call, const uint64_t *outcome) {
     uint64_t numbers[4];
-    if (job_of(call) < JOBS || job_of(call) == JOIN) {
+    if (job_of(call) != COMPARE && job_of(call) != SLIP) {
         if (job_of(call) == JOIN)
             joined(text_of(call), next_of(call), numbers);
         else
             expected(job_of(call), text_of(call), numbers);
         return memcmp(outcome, numbers, 3 * sizeof *numbers) == 0;
     }
-    if (job_of(call) == PAGE)
-        paged(text_of(call), page_of(call), numbers);
-    else if (job_of(call) == COMPARE)
+    if (job_of(call) == COMPARE)
         compared(text_of(call), next_of(call), numbers);
     else
         slipped(text_of(call), slip_of(call), text_of(call), numbers);

@@ -10,7 +10,7 @@ use Rattle.gates.proofs.Theorem.{reduced_unique}
 use Rattle.text.specs.declared.Refusal.{Refusal}
 use Rattle.text.specs.declared.Head.{Head}
 use Rattle.text.specs.Refusals.{number_of}
-use Rattle.text.specs.declared.Refusal.TheVariants.{Overlong, ShortList, Malformed, NoSuchLine, Crossed, Unsorted, TooWide, NoSpare, TooMany, ShortAnswer, DifferentLines, NotAllowed, OtherEnd, NoSuchPage}
+use Rattle.text.specs.declared.Refusal.TheVariants.{Overlong, ShortList, Malformed, NoSuchLine, Crossed, Unsorted, TooWide, NoSpare, TooMany, ShortAnswer, DifferentLines, NotAllowed, OtherEnd}
 use Rattle.text.specs.Text.{circuit_text}
 use Rattle.text.specs.Reading.{cut}
 use Rattle.text.specs.Judging.{Judged, turned_away, accepted, judge_text, read_all, judge}
@@ -45,7 +45,6 @@ from_1 ShortAnswer = omega arith
 from_1 DifferentLines = omega arith
 from_1 NotAllowed = omega arith
 from_1 OtherEnd = omega arith
-from_1 NoSuchPage = omega arith
 
 -- ---- success
 

@@ -33,7 +33,7 @@ use Rattle.jobs.specs.Jobs.{Job, mapping, takes, Output, as_text, as_count, outp
 use Rattle.jobs.proofs.One.{text_passed, passed_valid}
 use Rattle.outcomes.proofs.Outcomes.{refusal_list, success_list, refusal_settles}
 use Rattle.outcomes.specs.Outcomes.{limit_of, Settles, success_filling, refused, refused_two, succeeded_two, succeeded, with_text}
-use Rattle.jobs.specs.Handing.{exit_of, Said, HandsOne, Hands, exit_of_text, HandsText, AcceptsReduced, LoadsReduced, HandsTwo, shown_done, shown_area, text_of, written_done, written_area, quotes, put_done, put_area, loaded_done, loaded_area, Answerable}
+use Rattle.jobs.specs.Handing.{exit_of, Said, HandsOne, Hands, exit_of_text, HandsText, AcceptsReduced, LoadsReduced, HandsTwo, text_of, written_done, written_area, quotes, put_done, put_area, loaded_done, loaded_area, Answerable}
 
 -- ---- the gate list
 
@@ -44,54 +44,21 @@ success_settles room w l = record { fits = record { there = w.few; valid = w.cod
 
 -- ---- the answer area
 
--- there is no room for the text s
-pub too_short : (s : List ℕ) (m room size : ℕ) (codes a : List ℕ) → size ≡ length s → length a < size → (refused ShortAnswer 0 room codes ≡ shown_done s m room codes a) × (a ≡ shown_area s a)
-unfolding shown_done shown_area
-too_short s m room size codes a e l = let q = lt-ltb (length a) (length s) (omega (arith, e, l)) in (rw q, rw q)
+pub too_short : (h : Head) (m room size : ℕ) (codes a : List ℕ) → size ≡ length (text_of h m codes) → length a < size → (refused ShortAnswer 0 room codes ≡ written_done h m room codes a) × (a ≡ written_area h m codes a)
+unfolding written_done written_area
+too_short h m room size codes a e l = let q = lt-ltb (length a) (length (text_of h m codes)) (omega (arith, e, l)) in (rw q, rw q)
 
--- there is room, and it is written
-pub long_enough : (s : List ℕ) (m room size bytes : ℕ) (codes a b : List ℕ) → size ≡ length s → size ≤ length a → bytes ≡ length s → b ≡ s ++ drop bytes a
-    → (succeeded m bytes room codes ≡ shown_done s m room codes a) × (b ≡ shown_area s a)
-unfolding shown_done shown_area
-long_enough s m room size bytes codes a b e l k w = let q = le-ltb (length a) (length s) (omega (arith, e, l)) in (rw (q, k), w ∙ rw (q, k))
+pub long_enough : (h : Head) (m room size bytes : ℕ) (codes a b : List ℕ) → size ≡ length (text_of h m codes) → size ≤ length a → bytes ≡ length (text_of h m codes)
+    → b ≡ text_of h m codes ++ drop bytes a → (succeeded m bytes room codes ≡ written_done h m room codes a) × (b ≡ written_area h m codes a)
+unfolding written_done written_area
+long_enough h m room size bytes codes a b e l k w = let q = le-ltb (length a) (length (text_of h m codes)) (omega (arith, e, l)) in (rw (q, k), w ∙ rw (q, k))
 
 -- ---- what the job says
 
 -- what is handed over with a refusal leads to its exit
-pub refused_exit : (r : Refusal) (i room : ℕ) (s a codes : List ℕ) (l : List Gate) → length l ≡ room → exit_of (refused r i room codes).outcome (filled_by (refused r i room codes).filling l) a ≡ refusal r i (record { text = s; list = l; area = a })
+refused_exit : (r : Refusal) (i room : ℕ) (s a codes : List ℕ) (l : List Gate) → length l ≡ room → exit_of (refused r i room codes).outcome (filled_by (refused r i room codes).filling l) a ≡ refusal r i (record { text = s; list = l; area = a })
 unfolding refusal refused
 refused_exit r i room s a codes l e = ap (λ (t : List Gate). record { number = number_of r; line = i; gates = 0; bytes = 0; list = t; area = a }) (refusal_list r room codes l e)
-
--- what is handed over with success does
-succeeded_exit : (m n room : ℕ) (s a codes b : List ℕ) (l : List Gate) → m ≤ length codes → length l ≡ room → exit_of (succeeded m n room codes).outcome (filled_by (succeeded m n room codes).filling l) b ≡ success (record { text = s; list = l; area = a }) (gates (take m codes)) n b
-unfolding succeeded
-succeeded_exit m n room s a codes b l few e =
-    let counted : m ≡ length (gates (take m codes)) = omega (arith, length_gates (take m codes), length-take m codes, few) in
-    ap (λ (t : List Gate). record { number = 0; line = 0; gates = m; bytes = n; list = t; area = b }) (success_list m room codes l few e)
-    ∙ ap (λ (i : ℕ). record { number = 0; line = 0; gates = i; bytes = n; list = filled (gates (take m codes)) l; area = b }) counted
-
--- and so does the text t with the first m codes, where the area has room for it
-module _ {h : Head} {m : ℕ} (room : ℕ) {codes : List ℕ} (w : Renderable h m codes) (all : length codes ≡ 4096) (enough : 4096 ≤ room) (s a t : List ℕ) where
-  -- by whether the area is too short
-  abbrev by : Bool → Done
-  by b = cond b (refused ShortAnswer 0 room codes) (succeeded m (length t) room codes)
-
-  pub shown_settles : Settles (shown_done t m room codes a).outcome.number room (shown_done t m room codes a).filling
-  unfolding shown_done refused succeeded
-  shown_settles = go (ltb (length a) (length t))
-    where
-      go : (b : Bool) → Settles (by b).outcome.number room (by b).filling
-      go true = refusal_settles ShortAnswer room codes
-      go false = success_settles room w enough
-
-  pub shown_exit : (l : List Gate) → length l ≡ room → exit_of (shown_done t m room codes a).outcome (filled_by (shown_done t m room codes a).filling l) (shown_area t a) ≡ written (record { text = s; list = l; area = a }) (gates (take m codes)) t
-  unfolding shown_done shown_area written
-  shown_exit l e = go (ltb (length a) (length t))
-    where
-      go : (b : Bool) → exit_of (by b).outcome (filled_by (by b).filling l) (cond b a (t ++ drop (length t) a))
-          ≡ cond b (refusal ShortAnswer 0 (record { text = s; list = l; area = a })) (success (record { text = s; list = l; area = a }) (gates (take m codes)) (length t) (t ++ drop (length t) a))
-      go true = refused_exit ShortAnswer 0 room s a codes l e
-      go false = succeeded_exit m (length t) room s a codes _ l (omega (arith, w.few, all)) e
 
 -- a job that answers as j does, of a text s that is judged so, by the number of records of the list
 module _ (j : Job) (judged_by : ℕ → Judged) (s a : List ℕ) where
@@ -114,17 +81,32 @@ module _ (j : Job) (judged_by : ℕ → Judged) (s a : List ℕ) where
     unfolding Settled
     answers d b f q = record { settles = f; tells = λ l e. settled l _ e w.judged (gates (take m codes), w.reduced, q l e) }
 
+    settles : Settles 0 room (success_filling m room codes)
+    settles = success_settles room w.renderable enough
+
+    -- what is handed over with success leads to its exit
+    succeeded_exit : (n : ℕ) (b : List ℕ) (l : List Gate) → length l ≡ room → exit_of (succeeded m n room codes).outcome (filled_by (succeeded m n room codes).filling l) b ≡ success (record { text = s; list = l; area = a }) (gates (take m codes)) n b
+    unfolding succeeded
+    succeeded_exit n b l e =
+        let few : m ≤ length codes = omega (arith, w.renderable.few, all) in
+        let counted : m ≡ length (gates (take m codes)) = omega (arith, length_gates (take m codes), length-take m codes, few) in
+        ap (λ (t : List Gate). record { number = 0; line = 0; gates = m; bytes = n; list = t; area = b }) (success_list m room codes l few e)
+        ∙ ap (λ (i : ℕ). record { number = 0; line = 0; gates = i; bytes = n; list = filled (gates (take m codes)) l; area = b }) counted
+
     -- the count alone
     quoted_hands : output j (length a) ≡ as_count → HandsOne SettledBy room (succeeded m 0 room codes) a
     unfolding answered succeeded
-    quoted_hands i = answers (succeeded m 0 room codes) a (success_settles room w.renderable enough) (λ l e. rw i (succeeded_exit m 0 room s a codes a l (omega (arith, w.renderable.few, all)) e))
+    quoted_hands i = answers (succeeded m 0 room codes) a settles (λ l e. rw i (succeeded_exit 0 a l e))
 
     -- the text, where the area has room for it
     written_hands : output j (length a) ≡ as_text → HandsOne SettledBy room (written_done h m room codes a) (written_area h m codes a)
-    unfolding answered
-    written_hands i =
-        let t = text_of h m codes in
-        answers (written_done h m room codes a) (written_area h m codes a) (shown_settles room w.renderable all enough s a t) (λ l e. rw i (shown_exit room w.renderable all enough s a t l e))
+    unfolding written_done written_area written answered refused succeeded
+    written_hands i = go (ltb (length a) (length (text_of h m codes))) refl
+      where
+        go : (b : Bool) → ltb (length a) (length (text_of h m codes)) ≡ b → HandsOne SettledBy room (cond b (refused ShortAnswer 0 room codes) (succeeded m (length (text_of h m codes)) room codes)) (cond b a (text_of h m codes ++ drop (length (text_of h m codes)) a))
+        go true q = answers (refused ShortAnswer 0 room codes) a (refusal_settles ShortAnswer room codes) (λ l e. rw (i, q) (refused_exit ShortAnswer 0 room s a codes l e))
+        go false q = answers (succeeded m (length (text_of h m codes)) room codes) (text_of h m codes ++ drop (length (text_of h m codes)) a) settles
+            (λ l e. rw (i, q) (succeeded_exit (length (text_of h m codes)) _ l e))
 
     -- as the job puts it out
     put_hands : (o : Output) → output j (length a) ≡ o → HandsOne SettledBy room (put_done o h m room codes a) (put_area o h m codes a)
@@ -214,7 +196,7 @@ module _ {A : Type 0} (judged_by : ℕ → Judgement A) (Right : A → Answer �
       (right : Right b (record { count = length (text_of h m codes); circuits = gates (take m codes) ∷ []; text = text_of h m codes }))
       (all : length codes ≡ 4096) (w : Renderable h m codes) (enough : 4096 ≤ room) where
     pub written_text_hands : HandsText SaysText room (with_text 0 (written_done h m room codes a)) (written_area h m codes a)
-    unfolding with_text shown_done shown_area refused succeeded habits.Says habits.answered habits.success all_filled
+    unfolding with_text written_done written_area refused succeeded habits.Says habits.answered habits.success all_filled
     written_text_hands = go (ltb (length a) (length (text_of h m codes))) refl
       where
         go : (b : Bool) → ltb (length a) (length (text_of h m codes)) ≡ b → HandsText SaysText room (with_text 0 (cond b (refused ShortAnswer 0 room codes) (succeeded m (length (text_of h m codes)) room codes))) (cond b a (text_of h m codes ++ drop (length (text_of h m codes)) a))

@@ -78,23 +78,16 @@ LoadsReduced j codes (loaded.Refused r l) = j ≡ turned_away r l
 
 -- ---- what is handed over
 
--- the text s, with the first m codes in the list, where the answer area has room for the text
-unfoldable pub shown_done : List ℕ → ℕ → ℕ → List ℕ → List ℕ → Done
-shown_done s m room codes a = cond (ltb (length a) (length s)) (refused ShortAnswer 0 room codes) (succeeded m (length s) room codes)
-
-unfoldable pub shown_area : List ℕ → List ℕ → List ℕ
-shown_area s a = cond (ltb (length a) (length s)) a (s ++ drop (length s) a)
-
 -- the first m codes as a text
 abbrev pub text_of : Head → ℕ → List ℕ → List ℕ
 text_of h m codes = circuit_text h.lines (gates (take m codes))
 
--- that text
-abbrev pub written_done : Head → ℕ → ℕ → List ℕ → List ℕ → Done
-written_done h m room codes a = shown_done (text_of h m codes) m room codes a
+-- that text, where the answer area has room for it
+unfoldable pub written_done : Head → ℕ → ℕ → List ℕ → List ℕ → Done
+written_done h m room codes a = cond (ltb (length a) (length (text_of h m codes))) (refused ShortAnswer 0 room codes) (succeeded m (length (text_of h m codes)) room codes)
 
-abbrev pub written_area : Head → ℕ → List ℕ → List ℕ → List ℕ
-written_area h m codes a = shown_area (text_of h m codes) a
+unfoldable pub written_area : Head → ℕ → List ℕ → List ℕ → List ℕ
+written_area h m codes a = cond (ltb (length a) (length (text_of h m codes))) a (text_of h m codes ++ drop (length (text_of h m codes)) a)
 
 -- ---- by the reduced list, as this is to be put out, or the refusal
 

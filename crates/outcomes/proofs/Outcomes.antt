@@ -12,7 +12,7 @@ use Rattle.gates.specs.Code.{gates}
 use Rattle.gates.proofs.CodeLists.{length_gates}
 use Rattle.records.specs.Records.{filled_by}
 use Rattle.text.specs.declared.Refusal.{Refusal}
-use Rattle.text.specs.declared.Refusal.TheVariants.{Overlong, ShortList, Malformed, NoSuchLine, Crossed, Unsorted, TooWide, NoSpare, TooMany, ShortAnswer, DifferentLines, NotAllowed, OtherEnd, NoSuchPage}
+use Rattle.text.specs.declared.Refusal.TheVariants.{Overlong, ShortList, Malformed, NoSuchLine, Crossed, Unsorted, TooWide, NoSpare, TooMany, ShortAnswer, DifferentLines, NotAllowed, OtherEnd}
 use Rattle.text.specs.Refusals.{number_of}
 use Rattle.habits.specs.Habits.{left, filled}
 use Rattle.outcomes.specs.Outcomes.{limit_of, Settles, refusal_filling, success_filling}
@@ -55,7 +55,6 @@ limit_refusal ShortAnswer room = refl
 limit_refusal DifferentLines room = refl
 limit_refusal NotAllowed room = refl
 limit_refusal OtherEnd room = refl
-limit_refusal NoSuchPage room = refl
 
 pub refusal_settles : (r : Refusal) (room : ℕ) (codes : List ℕ) → Settles (number_of r) room (refusal_filling r room codes)
 unfolding refusal_filling

@@ -6,7 +6,6 @@ pub mod Calls
 pub mod Names
 pub mod Jobs
 pub mod Walk_text_list_area
-pub mod Walk_text_list_page_area
 pub mod Walk_text_list_text_list
 pub mod Walk_text_list_text_text_list
 pub mod Walk_text_list_text_area

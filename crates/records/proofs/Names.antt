@@ -1,6 +1,6 @@
 -- What the walks of jobs import of the library, in one place. Declares nothing.
 pub use mathlib.Core.Path.{◌≡◌, refl, sym, ap, subst}
-pub use Prim.Native.Nat.{ℕ, ◌<◌, ◌^◌}
+pub use Prim.Native.Nat.{ℕ}
 pub use mathlib.Core.List.{[], ◌∷◌, List}
 pub use lib.ListN.{length, length-replicate}
 pub use seplogic.Ra.Ura.{Ura}
@@ -23,8 +23,8 @@ pub use types.Part.{agg, whole, sub, look_in, rep}
 pub use sound.WpLaws.{FmC, fm_of}
 pub use denote.RattleType.{owns}
 pub use denote.Laws.{Is, shows}
-pub use denote.Plain.{uint_vals, uint_Tells, uint_Makes, Nothing-Lawful}
-pub use denote.Builtin.{u8, u64, usize, unit, SliceRefOf, SliceRefMutOf}
+pub use denote.Plain.{uint_Makes, Nothing-Lawful}
+pub use denote.Builtin.{u8, usize, unit, SliceRefOf, SliceRefMutOf}
 pub use denote.Ref.{Bor, MutBor}
 pub use denote.Slice.{slice_val, MutSlice, ShrSlice, Room, finally, shr_slice_vals, mut_slice_vals, mut_slice_Tells, shr_slice_Tells, shr_slice_copy}
 pub use denote.Signature.{Signature, plain}
@@ -34,7 +34,7 @@ pub use denote.Triple.Spec.{Meets}
 pub use denote.Triple.Statement.{Contract, Triple}
 pub use denote.Triple.Clauses.{Ended, Clauses, closing}
 pub use denote.Triple.Table.{cited}
-pub use denote.Triple.Walked.{says, Stays, gave_slice, stay_none, stay_none_slice, walk_of, Goes-gave_slice, Goes-none, Goes-none_slice, ends_at, walked}
+pub use denote.Triple.Walked.{says, Stays, gave_slice, stay_none_slice, walk_of, Goes-gave_slice, Goes-none_slice, ends_at, walked}
 pub use denote.Exit.{yes}
 pub use lib.Dec.{lit<}
 pub use types.Tokens.{lft_new, lft_end}

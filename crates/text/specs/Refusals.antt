@@ -1,7 +1,7 @@
 -- The numbers of the refusals: document 01's ten, then those that document 02's orders add. Assumes nothing.
 use Rattle.std.specs.Prelude.{ℕ}
 use Rattle.text.specs.declared.Refusal.{Refusal}
-use Rattle.text.specs.declared.Refusal.TheVariants.{Overlong, ShortList, Malformed, NoSuchLine, Crossed, Unsorted, TooWide, NoSpare, TooMany, ShortAnswer, DifferentLines, NotAllowed, OtherEnd, NoSuchPage}
+use Rattle.text.specs.declared.Refusal.TheVariants.{Overlong, ShortList, Malformed, NoSuchLine, Crossed, Unsorted, TooWide, NoSpare, TooMany, ShortAnswer, DifferentLines, NotAllowed, OtherEnd}
 
 abbrev pub number_of : Refusal → ℕ
 number_of Overlong = 1
@@ -19,5 +19,3 @@ number_of DifferentLines = 11
 -- order 9: "12, a step not allowed"; "13, the slip ends at another circuit"
 number_of NotAllowed = 12
 number_of OtherEnd = 13
--- order 10: "14, no such page"
-number_of NoSuchPage = 14

@@ -18,7 +18,6 @@ pub enum Refusal {
     DifferentLines,
     NotAllowed,
     OtherEnd,
-    NoSuchPage,
 }
 
 // The two texts: a cascade of mct gates, and a circuit.
@@ -69,6 +68,5 @@ pub fn number(r: Refusal) -> u8
         Refusal::DifferentLines => 11,
         Refusal::NotAllowed => 12,
         Refusal::OtherEnd => 13,
-        Refusal::NoSuchPage => 14,
     }
 }

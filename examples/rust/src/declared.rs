@@ -28,16 +28,6 @@ extern "C" {
         answer_len: usize,
         outcome: *mut u64,
     );
-    pub fn yilgorza_page(
-        text: *const u8,
-        text_len: usize,
-        list: *mut u16,
-        list_len: usize,
-        page: u64,
-        answer: *mut u8,
-        answer_len: usize,
-        outcome: *mut u64,
-    );
     pub fn yilgorza_join(
         first: *const u8,
         first_len: usize,

@@ -1,14 +1,12 @@
 //! Safe calls of the C functions: each is proved for all bytes and all lengths, so
 //! a caller has nothing to see to.
 
-use crate::declared::{
-    yilgorza_compare, yilgorza_gate, yilgorza_join, yilgorza_page, yilgorza_slip,
-};
+use crate::declared::{yilgorza_compare, yilgorza_gate, yilgorza_join, yilgorza_slip};
 
 pub type Writing =
     unsafe extern "C" fn(*const u8, usize, *mut u16, usize, *mut u8, usize, *mut u64);
 
-/// Number, line, gates and bytes of map, reduce or invert.
+/// Number, line, gates and bytes of a job over one text.
 pub fn writing(job: Writing, text: &[u8], list: &mut [u16], answer: &mut [u8]) -> [u64; 4] {
     let mut outcome = [0; 4];
     // The pointers are those of slices, with their lengths, of which those that
@@ -19,25 +17,6 @@ pub fn writing(job: Writing, text: &[u8], list: &mut [u16], answer: &mut [u8]) -
             text.len(),
             list.as_mut_ptr(),
             list.len(),
-            answer.as_mut_ptr(),
-            answer.len(),
-            outcome.as_mut_ptr(),
-        );
-    }
-    outcome
-}
-
-/// Number, line, gates and bytes of page.
-pub fn page(text: &[u8], list: &mut [u16], page: u64, answer: &mut [u8]) -> [u64; 4] {
-    let mut outcome = [0; 4];
-    // As above.
-    unsafe {
-        yilgorza_page(
-            text.as_ptr(),
-            text.len(),
-            list.as_mut_ptr(),
-            list.len(),
-            page,
             answer.as_mut_ptr(),
             answer.len(),
             outcome.as_mut_ptr(),

@@ -23,9 +23,8 @@ use crate::declared::{yilgorza_invert, yilgorza_map, yilgorza_reduce};
 use crate::ffi;
 use crate::{Gate, Number, Refusal, SeveralRefusal};
 
-/// How much a job over one text gives: the gates, which are the first records of the
-/// list, and the bytes of the circuit text or the page, which are the first of the answer
-/// area.
+/// How much map, reduce or invert gives: the gates, which are the first records of the list,
+/// and the bytes of the circuit text, which are the first of the answer area.
 #[derive(Clone, Copy, Debug, PartialEq, Eq, Hash)]
 pub struct Counts {
     pub gates: usize,
@@ -47,30 +46,6 @@ pub fn reduce(text: &[u8], list: &mut [u16], answer: &mut [u8]) -> Result<Counts
 /// made reduced. An answer area of length 0 is too short.
 pub fn invert(text: &[u8], list: &mut [u16], answer: &mut [u8]) -> Result<Counts, Refusal> {
     result(ffi::writing(yilgorza_invert, text, list, answer))
-}
-
-/// Draws a page, counted from 0, of a circuit text. The list then holds the circuit as it
-/// is read, whichever page is drawn. An answer area of [`PAGE_BYTES`](crate::PAGE_BYTES)
-/// has room for every page, and one of length 0 is too short.
-///
-/// ```
-/// use yilgorza::lent::{self, Counts};
-///
-/// let (mut list, mut answer) = ([0; 4096], [0; yilgorza::PAGE_BYTES]);
-/// let text = b"(lines 2)\n(cn 0 1)\n(v 0 1)\n";
-///
-/// let drawn = lent::page(text, &mut list, 0, &mut answer).unwrap();
-/// assert_eq!(drawn, Counts { gates: 2, bytes: 152 });
-/// assert!(answer.starts_with(b" 0 -*--*----"));
-/// assert!(answer[76..].starts_with(b" 1 -+--V----"));
-/// ```
-pub fn page(
-    text: &[u8],
-    list: &mut [u16],
-    page: u64,
-    answer: &mut [u8],
-) -> Result<Counts, Refusal> {
-    result(ffi::page(text, list, page, answer))
 }
 
 /// Joins two circuit texts, the first before the second, and reduces. There is one

@@ -1,6 +1,6 @@
 //! Maps a cascade of multiple-control Toffoli gates to a list of NCV gates, reduces
-//! such a list, inverts it, draws it, joins two of them, says whether two are one
-//! circuit, and checks the steps that are said to lead from one to another.
+//! such a list, inverts it, joins two of them, says whether two are one circuit, and
+//! checks the steps that are said to lead from one to another.
 //!
 //! ```
 //! let mapped = yilgorza::map(b"(lines 2)\n(mct (0) 1)\n").unwrap();
@@ -14,14 +14,12 @@
 //! assert!(yilgorza::join(redrawn, &undo.text).unwrap().gates.is_empty());
 //!
 //! assert!(yilgorza::slip(redrawn, b"(merge 1)\n", &mapped.text).is_ok());
-//!
-//! assert!(yilgorza::page(redrawn, 0).unwrap().starts_with(b" 0 -*--*----"));
 //! ```
 //!
-//! [`map`], [`reduce`], [`invert`], [`page`], [`join`], [`compare`] and [`slip`] bring the
-//! memory that the C functions of `include/yilgorza.h` are lent; [`lent`] has them on
-//! memory of the caller's. The quote of a cascade is the number of gates that [`map`]
-//! gives; [`lent::map`] gives it without the text too.
+//! [`map`], [`reduce`], [`invert`], [`join`], [`compare`] and [`slip`] bring the memory
+//! that the C functions of `include/yilgorza.h` are lent; [`lent`] has them on memory of
+//! the caller's. The quote of a cascade is the number of gates that [`map`] gives;
+//! [`lent::map`] gives it without the text too.
 
 mod declared;
 mod ffi;
@@ -34,11 +32,6 @@ use std::fmt;
 /// every answer.
 pub const LIST_RECORDS: usize = 4096;
 pub const ANSWER_BYTES: usize = 45067;
-
-/// The bytes of an answer area that has room for every page, and the most gates that a
-/// page shows.
-pub const PAGE_BYTES: usize = 2432;
-pub const PAGE_GATES: usize = 24;
 
 /// A gate of a circuit.
 #[derive(Clone, Copy, Debug, PartialEq, Eq, Hash)]
@@ -72,8 +65,6 @@ pub enum Number {
     NotAllowed = 12,
     /// From [`slip`] alone, once every step is taken: they end at another circuit.
     OtherEnd = 13,
-    /// From [`page`] alone, once the text is read.
-    NoSuchPage = 14,
 }
 
 /// Why a text is turned away, and its line, counted from 1; 0 where the refusal
@@ -96,7 +87,7 @@ pub struct SeveralRefusal {
 
 impl Number {
     /// The numbers in order, from 1.
-    pub const ALL: [Number; 14] = [
+    pub const ALL: [Number; 13] = [
         Number::Overlong,
         Number::ShortList,
         Number::Malformed,
@@ -110,7 +101,6 @@ impl Number {
         Number::DifferentLines,
         Number::NotAllowed,
         Number::OtherEnd,
-        Number::NoSuchPage,
     ];
 
     /// The refusal in a customer's words.
@@ -144,9 +134,6 @@ impl Number {
                  do not pass or merge, or there are no two gates there"
             }
             Number::OtherEnd => "the steps of the slip end at another circuit than the second",
-            Number::NoSuchPage => {
-                "the circuit has no such page: pages are counted from 0, 24 gates to a page"
-            }
         }
     }
 }
@@ -232,37 +219,6 @@ pub fn reduce(text: &[u8]) -> Result<Circuit, Refusal> {
 /// ```
 pub fn invert(text: &[u8]) -> Result<Circuit, Refusal> {
     circuit(lent::invert, text)
-}
-
-/// Draws a page, counted from 0, of a circuit text. The circuit is drawn as it is given,
-/// and not reduced; to draw a reduced list, draw the text of [`map`] or [`reduce`].
-///
-/// A page has a row for each line of the circuit, ended by byte 10, and in it a cell of
-/// three columns for each of [`PAGE_GATES`] gates: `-*-` for a control, `-+-` for the target
-/// of not and cn, `-V-` for that of v, `-W-` for that of vp, `-|-` strictly between control
-/// and target, and else `---`, also where there is no gate. A circuit of at most 24 gates
-/// has one page, also one without gates; any other has gates / 24 pages, rounded up. The
-/// pages determine the circuit: two circuits on the same number of lines with the same
-/// pages are equal, gate for gate.
-///
-/// ```
-/// let toffoli = b"(lines 3)\n(v 1 2)\n(cn 0 1)\n(vp 1 2)\n(cn 0 1)\n(v 0 2)\n";
-/// let page = yilgorza::page(toffoli, 0).unwrap();
-/// let rows: Vec<&[u8]> = page.split_inclusive(|byte| *byte == b'\n').collect();
-/// assert_eq!(rows.len(), 3);
-/// assert!(rows[0].starts_with(b" 0 ----*-----*--*----"));
-/// assert!(rows[1].starts_with(b" 1 -*--+--*--+--|----"));
-/// assert!(rows[2].starts_with(b" 2 -V-----W-----V----"));
-///
-/// let refusal = yilgorza::page(toffoli, 1).unwrap_err();
-/// assert_eq!(refusal.number, yilgorza::Number::NoSuchPage);
-/// ```
-pub fn page(text: &[u8], page: u64) -> Result<Vec<u8>, Refusal> {
-    let mut list = vec![0; LIST_RECORDS];
-    let mut answer = vec![0; PAGE_BYTES];
-    let counts = lent::page(text, &mut list, page, &mut answer)?;
-    answer.truncate(counts.bytes);
-    Ok(answer)
 }
 
 /// Joins two circuit texts on the same number of lines, the first before the second,

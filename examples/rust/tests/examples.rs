@@ -1,13 +1,11 @@
 //! The examples of document 01, negated controls, spare lines, kept lines, the order of
-//! circuits, inverses, pages, joins and slips, and what is left in memory that a caller
-//! lends.
+//! circuits, inverses, joins and slips, and what is left in memory that a caller lends.
 
 use std::cmp::Ordering;
 
 use yilgorza::lent::{self, Counts};
 use yilgorza::{
-    compare, invert, join, map, page, reduce, slip, Circuit, Gate, Number, Refusal, SeveralRefusal,
-    PAGE_BYTES, PAGE_GATES,
+    compare, invert, join, map, reduce, slip, Circuit, Gate, Number, Refusal, SeveralRefusal,
 };
 
 /// A text of these lines.
@@ -614,159 +612,6 @@ fn what_was_computed_is_uncomputed() {
     }
 }
 
-/// The Toffoli gate as it is expanded, and its page as document 02 gives it.
-const EXPANDED: &[u8] = include_bytes!("../../texts/toffoli.circuit");
-const EXPANDED_DRAWN: [&str; 3] = [
-    " 0 ----*-----*--*----------------------------------------------------------",
-    " 1 -*--+--*--+--|----------------------------------------------------------",
-    " 2 -V-----W-----V----------------------------------------------------------",
-];
-
-/// The page whose rows begin with these cells, and show no gates after them.
-fn rows(cells: &[&str]) -> Vec<u8> {
-    let row = |(line, cells)| format!("{line:2} {cells:-<72}\n");
-    let rows: String = cells.iter().enumerate().map(row).collect();
-    rows.into_bytes()
-}
-
-#[test]
-fn pages() {
-    let expanded = [
-        "(lines 3)",
-        "(v 1 2)",
-        "(cn 0 1)",
-        "(vp 1 2)",
-        "(cn 0 1)",
-        "(v 0 2)",
-    ];
-    assert_eq!(EXPANDED, text(&expanded));
-    assert_eq!(page(EXPANDED, 0), Ok(text(&EXPANDED_DRAWN)));
-    assert_eq!(EXPANDED_DRAWN.map(str::len), [75; 3]);
-
-    let every_kind = [
-        "(lines 4)",
-        "(v 0 3)",
-        "(v 3 0)",
-        "(vp 1 3)",
-        "(vp 3 1)",
-        "(cn 0 2)",
-        "(cn 2 0)",
-        "(not 1)",
-    ];
-    let every_cell = [
-        "-*--V--------*--+----",
-        "-|--|--*--W--|--|--+-",
-        "-|--|--|--|--+--*----",
-        "-V--*--W--*----------",
-    ];
-    let cases: [(&[&str], &[&str]); 7] = [
-        (&["(lines 1)"], &[""]),
-        (&["(lines 1)", "(not 0)"], &["-+-"]),
-        (&["(lines 2)", "(cn 0 1)"], &["-*-", "-+-"]),
-        (&["(lines 2)", "(cn 1 0)"], &["-+-", "-*-"]),
-        (&every_kind, &every_cell),
-        // As given: nothing is merged, and nothing brought into order.
-        (
-            &["(lines 2)", "(v 0 1)", "(v 0 1)", "(not 1)"],
-            &["-*--*----", "-V--V--+-"],
-        ),
-        (&["(lines 1)", "(not 0)", "(not 0)"], &["-+--+-"]),
-    ];
-    for (given, cells) in cases {
-        assert_eq!(page(&text(given), 0), Ok(rows(cells)), "{given:?}");
-    }
-
-    // All lines that a circuit may have.
-    let mut between = vec!["-|--|-"; 32];
-    (between[0], between[31]) = ("-*--W-", "-+--*-");
-    let longest = text(&["(lines 32)", "(cn 0 31)", "(vp 31 0)"]);
-    assert_eq!(page(&longest, 0), Ok(rows(&between)));
-    assert_eq!(rows(&between).len(), PAGE_BYTES);
-}
-
-#[test]
-fn numbers_of_pages() {
-    for (gates, pages) in [
-        (0, 1),
-        (1, 1),
-        (23, 1),
-        (24, 1),
-        (25, 2),
-        (48, 2),
-        (49, 3),
-        (4095, 171),
-        (4096, 171),
-    ] {
-        // Gate k, counted from 0, is a NOT on line k modulo 32.
-        let forms = (0..gates).map(|gate| format!("(not {})\n", gate % 32));
-        let given = ["(lines 32)\n".to_string()].into_iter().chain(forms);
-        let given = given.collect::<String>().into_bytes();
-        for number in 0..pages {
-            let gate = |cell| PAGE_GATES * number as usize + cell;
-            let cells = |line| {
-                let cell = |cell| match gate(cell) < gates && gate(cell) % 32 == line {
-                    true => "-+-",
-                    false => "---",
-                };
-                (0..PAGE_GATES).map(cell).collect::<String>()
-            };
-            let cells: Vec<String> = (0..32).map(cells).collect();
-            let cells: Vec<&str> = cells.iter().map(String::as_str).collect();
-            assert_eq!(page(&given, number), Ok(rows(&cells)), "{gates} {number}");
-        }
-        // Of the last ones 24 times the number, kept in 64 bits, is 8, and 0.
-        for number in [pages, pages + 1, u64::MAX, u64::MAX / 24 + 1, 1 << 61] {
-            assert_eq!(page(&given, number), refused(Number::NoSuchPage, 0));
-        }
-    }
-    assert_eq!(
-        page(EXPANDED, 1).unwrap_err().to_string(),
-        "(turned-away 14 0): the circuit has no such page: pages are counted from 0, 24 \
-         gates to a page"
-    );
-}
-
-/// The gates that pages show, in order, as the lines of a text.
-fn shown(pages: &[Vec<u8>]) -> Vec<String> {
-    let mut forms = vec![];
-    for page in pages {
-        let rows: Vec<&[u8]> = page.split_inclusive(|byte| *byte == b'\n').collect();
-        for cell in 0..PAGE_GATES {
-            let marks: Vec<u8> = rows.iter().map(|row| row[3 * cell + 4]).collect();
-            let Some(target) = marks.iter().position(|mark| b"+VW".contains(mark)) else {
-                continue;
-            };
-            let control = marks.iter().position(|mark| *mark == b'*');
-            forms.push(match (marks[target], control) {
-                (b'V', Some(control)) => format!("(v {control} {target})"),
-                (b'W', Some(control)) => format!("(vp {control} {target})"),
-                (_, Some(control)) => format!("(cn {control} {target})"),
-                (_, None) => format!("(not {target})"),
-            });
-        }
-    }
-    forms
-}
-
-/// The pages of a circuit show its gates, and so are those of no other.
-#[test]
-fn a_circuit_is_read_from_its_pages() {
-    let mut drawn = RISING.concat();
-    drawn.extend(SLIPS.iter().map(|(circuit, _, _)| circuit));
-    drawn.extend([
-        &FIVE_MAPPED[..],
-        &KEPT_MAPPED,
-        &TOFFOLI_MAPPED,
-        &TOFFOLI_UNDONE,
-    ]);
-    for drawn in drawn {
-        let count = (drawn.len() - 1).div_ceil(PAGE_GATES).max(1) as u64;
-        let pages: Result<Vec<_>, _> = (0..count).map(|p| page(&text(drawn), p)).collect();
-        assert_eq!(shown(&pages.unwrap()), drawn[1..]);
-        assert_eq!(page(&text(drawn), count), refused(Number::NoSuchPage, 0));
-    }
-}
-
 #[test]
 fn joins() {
     let cases: [(&[&str], &[&str], &[&str]); 8] = [
@@ -1178,12 +1023,9 @@ fn refusals_of_two_texts() {
             assert_eq!(compare(bad, other), first);
             assert_eq!(join(bad, other), refused_text(*number, *line, 1));
         }
-        // With one text it is the refusal of reduce, invert and page, whatever the page.
+        // With one text it is the refusal of reduce and invert.
         assert_eq!(reduce(bad), refused(*number, *line));
         assert_eq!(invert(bad), refused(*number, *line));
-        for page_number in [0, 1, u64::MAX] {
-            assert_eq!(page(bad, page_number), refused(*number, *line));
-        }
     }
     assert_eq!(
         compare(&text(&full), &text(&["(lines 2)"])),
@@ -1304,60 +1146,6 @@ fn an_answer_area_goes_by_the_answer_of_its_own_job() {
     let bytes = answer.len();
     let inverted = lent::invert(&given, &mut list, &mut answer);
     assert_eq!(inverted, Ok(Counts { gates: 1, bytes }));
-}
-
-#[test]
-fn memory_lent_to_page() {
-    let drawn = text(&EXPANDED_DRAWN);
-    let long = vec![b'('; 60001];
-
-    // What a list and an area of these lengths, full of 7, hold after the call.
-    let left = |text: &[u8], records, number, room| {
-        let (mut list, mut answer) = (vec![7; records], vec![7; room]);
-        let result = lent::page(text, &mut list, number, &mut answer);
-        (result, list, answer)
-    };
-
-    let bytes = drawn.len();
-    for (records, room) in [(4096, bytes), (5000, bytes + 1), (4096, PAGE_BYTES)] {
-        let (result, list, answer) = left(EXPANDED, records, 0, room);
-        assert_eq!(result, Ok(Counts { gates: 5, bytes }));
-        // As read, and not reduced.
-        assert_eq!(list[..5], [273, 138, 275, 138, 269]);
-        assert!(list[5..].iter().all(|record| *record == 2));
-        assert_eq!(answer[..bytes], drawn);
-        assert!(answer[bytes..].iter().all(|byte| *byte == 7));
-    }
-
-    // Whichever page is drawn, the list holds the whole circuit.
-    let vps = [vec!["(lines 2)"], vec!["(vp 0 1)"; 25]].concat();
-    for number in [0, 1] {
-        let (result, list, _) = left(&text(&vps), 4096, number, 152);
-        assert_eq!(result.map(|counts| counts.gates), Ok(25));
-        assert_eq!(list[..25], [139; 25]);
-        assert_eq!(list[25..], [2; 4071]);
-    }
-
-    // Refusals 1 and 2 leave the list as it was, any other `not 0` in all of it; and
-    // every refusal the area. That there is no such page is told after what is wrong
-    // with the text, and before that the area is too short.
-    for (text, records, number, room, (refusal, line), record) in [
-        (&long[..], 0, 1, 0, (Number::Overlong, 0), 7),
-        (EXPANDED, 4095, 1, 0, (Number::ShortList, 0), 7),
-        (b"", 4096, 1, 0, (Number::Malformed, 1), 2),
-        (b"(lines 2)\n(v 1 1)\n", 5000, 1, 0, (Number::Crossed, 2), 2),
-        (EXPANDED, 4096, 1, PAGE_BYTES, (Number::NoSuchPage, 0), 2),
-        (EXPANDED, 5000, 1, bytes - 1, (Number::NoSuchPage, 0), 2),
-        (EXPANDED, 4096, u64::MAX, 0, (Number::NoSuchPage, 0), 2),
-        (EXPANDED, 4096, 0, bytes - 1, (Number::ShortAnswer, 0), 2),
-        (EXPANDED, 5000, 0, 1, (Number::ShortAnswer, 0), 2),
-        (EXPANDED, 4096, 0, 0, (Number::ShortAnswer, 0), 2),
-    ] {
-        let (result, list, answer) = left(text, records, number, room);
-        assert_eq!(result, refused(refusal, line));
-        assert_eq!(list, vec![record; records]);
-        assert_eq!(answer, vec![7; room]);
-    }
 }
 
 #[test]

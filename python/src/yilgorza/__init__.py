@@ -1,7 +1,6 @@
 """Maps a cascade of multiple-control Toffoli gates to a list of NCV gates,
-reduces such a list, quotes its gate count, inverts it, draws it, joins two of them,
-says whether two are one circuit, and checks the steps that are said to lead from one
-to another.
+reduces such a list, quotes its gate count, inverts it, joins two of them, says whether
+two are one circuit, and checks the steps that are said to lead from one to another.
 
     >>> import yilgorza
     >>> yilgorza.quote("(lines 3)\\n(mct (0 1) 2)\\n").count
@@ -17,10 +16,6 @@ to another.
     >>> yilgorza.slip(circuit, "(merge 1)\\n", "(lines 2)\\n(cn 0 1)\\n")
     >>> yilgorza.reduction_slip(circuit)
     b'(merge 1)\\n'
-    >>> for row in yilgorza.page(circuit, 0).splitlines():
-    ...     print(row[:18])
-     0 -*--*----------
-     1 -V--V----------
 
 A text is a str or any bytes-like object. A str stands for its UTF-8 bytes, a lone
 surrogate for its three; no character outside ASCII is in form, so a line that has
@@ -28,10 +23,10 @@ one is turned away as malformed. A file is best read as bytes: opened as a text
 its line ends are changed, and bytes of it may be.
 
 The functions are called by the module's name, yilgorza.map, yilgorza.reduce,
-yilgorza.quote, yilgorza.invert, yilgorza.page, yilgorza.join, yilgorza.compare,
-yilgorza.slip and yilgorza.reduction_slip: `from yilgorza import *` brings the types
-alone, so that it hides neither the built-in map nor functools.reduce. One call of map
-gives the gates and the text; quote gives the gates alone.
+yilgorza.quote, yilgorza.invert, yilgorza.join, yilgorza.compare, yilgorza.slip and
+yilgorza.reduction_slip: `from yilgorza import *` brings the types alone, so that it
+hides neither the built-in map nor functools.reduce. One call of map gives the gates
+and the text; quote gives the gates alone.
 
 Calls may run at the same time in any number of threads: each lends areas of its
 own, and the interpreter runs other threads meanwhile. The shared object is loaded
@@ -41,8 +36,6 @@ YILGORZA_SO says; OSError if that fails.
 
 from __future__ import annotations
 
-import operator
-import re
 from dataclasses import dataclass
 from enum import Enum, IntEnum
 from functools import lru_cache
@@ -71,10 +64,6 @@ Text = Union[str, bytes, bytearray, memoryview]
 # The most lines of a slip.
 _SLIP_STEPS = 4096
 
-# The largest number of a page that the library takes, and the rows of a page.
-_LARGEST_PAGE = 2**64 - 1
-_ROWS = re.compile(rb"(?:[ \d]\d [-*+VW|]{72}\n)+")
-
 
 class Number(IntEnum):
     """The numbers of a refusal.
@@ -84,8 +73,7 @@ class Number(IntEnum):
     or the line is kept, gets NO_SPARE, and once a line is added TOO_WIDE.
     DIFFERENT_LINES is join's and slip's, once all texts are read; before join counts
     the gates of both together, and before slip takes a step. NOT_ALLOWED, of a step,
-    and OTHER_END, once every step is taken, are slip's. NO_SUCH_PAGE is page's, once
-    the text is read.
+    and OTHER_END, once every step is taken, are slip's.
     """
 
     OVERLONG = 1
@@ -101,7 +89,6 @@ class Number(IntEnum):
     DIFFERENT_LINES = 11
     NOT_ALLOWED = 12
     OTHER_END = 13
-    NO_SUCH_PAGE = 14
 
     @property
     def words(self) -> str:
@@ -133,8 +120,6 @@ _WORDS = {
     Number.NOT_ALLOWED: "this step of the slip is not allowed: the two gates at its "
     "place do not pass or merge, or there are no two gates there",
     Number.OTHER_END: "the steps of the slip end at another circuit than the second",
-    Number.NO_SUCH_PAGE: "the circuit has no such page: pages are counted from 0, 24 "
-    "gates to a page",
 }
 
 # The texts of a job over several, by their numbers from 1.
@@ -262,33 +247,6 @@ def invert(text: Text) -> Circuit:
     return _written("invert", text)
 
 
-def page(text: Text, p: int) -> str:
-    """Draws page p, counted from 0, of a circuit text: a row for each line of the
-    circuit, each ended by a line feed. TurnedAway if the text is refused, or if the
-    circuit has no such page; ValueError if p is negative.
-
-    The circuit is drawn as it is given, and not reduced; to draw a reduced list, draw
-    the text of map or reduce. A row is the number of the line in two columns, a space,
-    and a cell of three columns for each of 24 gates: `-*-` for a control, `-+-` for the
-    target of not and cn, `-V-` for that of v, `-W-` for that of vp, `-|-` strictly
-    between control and target, and else `---`, also where there is no gate.
-
-    A circuit of at most 24 gates has one page, also one without gates; any other has
-    gates / 24 pages, rounded up. The pages determine the circuit: two circuits on the
-    same number of lines with the same pages are equal, gate for gate.
-    """
-    records = _library.GateList()
-    answer = _library.PageArea()
-    number, line, _, length = _library.run(
-        "page", _bytes(text), records, _page(p), answer
-    )
-    _accept(number, line)
-    rows = memoryview(answer)[:length].tobytes()
-    if not _ROWS.fullmatch(rows):
-        raise InternalError("yilgorza: the answer is no page")
-    return rows.decode("ascii")
-
-
 def join(first: Text, second: Text) -> Circuit:
     """Joins two circuit texts on the same number of lines, the first before the
     second, and reduces; TurnedAway, with the number of the text, if one is refused,
@@ -412,18 +370,6 @@ def _bytes(text: Text) -> bytes:
         raise TypeError(
             f"a text is a str or a bytes-like object, not {type(text).__name__}"
         ) from None
-
-
-def _page(p: int) -> int:
-    """The number of a page for the library: for every number that is too large for it
-    the largest that it takes, which no circuit has either."""
-    try:
-        number = operator.index(p)
-    except TypeError:
-        raise TypeError(f"a page is an int, not {type(p).__name__}") from None
-    if number < 0:
-        raise ValueError("a page is not negative: pages are counted from 0")
-    return min(number, _LARGEST_PAGE)
 
 
 def _accept(number: int, line: int, text: Optional[int] = None) -> None:

@@ -13,18 +13,15 @@ _PACKAGED = str(Path(__file__).absolute().with_name("libyilgorza.so"))
 
 LIST_RECORDS = 4096
 ANSWER_BYTES = 45067
-PAGE_BYTES = 2432
 
 GateList = ctypes.c_uint16 * LIST_RECORDS
 AnswerArea = ctypes.c_uint8 * ANSWER_BYTES
 NoAnswerArea = ctypes.c_uint8 * 0
-PageArea = ctypes.c_uint8 * PAGE_BYTES
 _Outcome = ctypes.c_uint64 * 4
 _GateParts = ctypes.c_uint8 * 3
 
 _TEXT: List[Any] = [ctypes.c_char_p, ctypes.c_size_t]
 _LIST: List[Any] = [ctypes.POINTER(ctypes.c_uint16), ctypes.c_size_t]
-_PAGE: List[Any] = [ctypes.c_uint64]
 _ANSWER: List[Any] = [ctypes.POINTER(ctypes.c_uint8), ctypes.c_size_t]
 _OUTCOME: List[Any] = [ctypes.POINTER(ctypes.c_uint64)]
 
@@ -33,7 +30,6 @@ _FUNCTIONS: Dict[str, List[Any]] = {
     "map": _TEXT + _LIST + _ANSWER + _OUTCOME,
     "reduce": _TEXT + _LIST + _ANSWER + _OUTCOME,
     "invert": _TEXT + _LIST + _ANSWER + _OUTCOME,
-    "page": _TEXT + _LIST + _PAGE + _ANSWER + _OUTCOME,
     "join": _TEXT + _LIST + _TEXT + _ANSWER + _OUTCOME,
     "compare": _TEXT + _LIST + _TEXT + _LIST + _OUTCOME,
     "slip": _TEXT + _LIST + _TEXT + _TEXT + _LIST + _OUTCOME,
@@ -41,17 +37,15 @@ _FUNCTIONS: Dict[str, List[Any]] = {
 }
 
 
-# A text, an area that is lent, or the number of a page.
-Lent = Union[bytes, "ctypes.Array[Any]", int]
+# A text, or an area that is lent.
+Lent = Union[bytes, "ctypes.Array[Any]"]
 
 
 def run(job: str, *lent: Lent) -> Tuple[int, int, int, int]:
-    """Runs a job on its texts, the areas lent to it and its page, in its order: of one
-    text number, line, gates and bytes, of several number, line, text and count."""
+    """Runs a job on its texts and the areas lent to it, in its order: of one text
+    number, line, gates and bytes, of several number, line, text and count."""
     outcome = _Outcome()
-    parts: List[Any] = []
-    for given in lent:
-        parts += [given] if isinstance(given, int) else [given, len(given)]
+    parts = [part for area in lent for part in (area, len(area))]
     _functions()[job](*parts, outcome)
     first, second, third, fourth = outcome
     return first, second, third, fourth

@@ -1,17 +1,16 @@
 //! The programs through files against the peer's. Where the peer answers, the same
 //! answer has to stand on standard output and nothing on standard error; where it
 //! complains (a file that can't be opened or read, wrong arguments), one line on
-//! standard error and nothing on standard output. For wrong use of page it is the line that
-//! order 10 has.
+//! standard error and nothing on standard output.
 
 use crate::chain::{redrawn, STEPS};
 use crate::circuit;
-use crate::programs::{all_texts, Written, PROGRAMS};
+use crate::programs::{Written, PROGRAMS};
 use crate::random::Random;
 use crate::report::{shown, Report};
 use crate::steps;
 use crate::texts;
-use peer::files::{self, Pairing, LONGEST_NAME, PAGE_USAGE};
+use peer::files::{self, Pairing, LONGEST_NAME};
 use peer::Program;
 use std::collections::BTreeMap;
 use std::ffi::OsString;
@@ -70,29 +69,21 @@ impl Files<'_> {
         for [first, slip, second] in &slips(&mut self.random) {
             self.texts("slip", [first, slip, second], files::three_texts)?;
         }
-        for text in all_texts(&mut self.random, Program::Reduce) {
-            self.page(&text)?;
-        }
         let names = made_files()?;
         for program in [Pairing::Compare, Pairing::Join] {
             self.two_names(program, &names);
         }
         self.three_names(&names);
         for (program, name) in PROGRAMS {
-            let expected =
-                |names: &[OsString], input: &[u8]| files::one_text(program, names, input);
-            self.one_name(name, &[], &names, expected)?;
+            self.one_name(program, name, &names)?;
         }
-        let first_page = [OsString::from("0")];
-        let expected = |arguments: &[OsString], input: &[u8]| files::page_text(arguments, input);
-        self.one_name("page", &first_page, &names, expected)?;
-        self.page_numbers()
+        Ok(())
     }
 
     /// Tells how often each answer was expected; one that never was has failed.
     fn tell(&mut self) {
         println!("programs: expected so often: {:?}", self.expected);
-        let own: [(&str, &[&str]); 8] = [
+        let own: [(&str, &[&str]); 7] = [
             ("compare", &["less", "equal", "greater"]),
             ("join", &["circuit", "turned-away 11 0"]),
             (
@@ -104,7 +95,6 @@ impl Files<'_> {
                     "turned-away 13 0",
                 ],
             ),
-            ("page", &["page", "turned-away 14"]),
             ("map", &["circuit"]),
             ("reduce", &["circuit"]),
             ("invert", &["circuit"]),
@@ -123,7 +113,6 @@ impl Files<'_> {
                 );
             }
             due.extend([1, 3].map(|text| format!("slip turned-away {number} {text}")));
-            due.push(format!("page turned-away {number}"));
         }
         due.extend([1, 3, 9].map(|number| format!("slip turned-away {number} 2")));
         for answer in due {
@@ -179,9 +168,6 @@ impl Files<'_> {
         let got = Written::by(&self.directory.join(program), given, piped, piece);
         let right = match (&got, &expected) {
             (Ok(written), Ok(answer)) => written.answer().as_ref() == Ok(answer),
-            (Ok(written), Err(line)) if line == PAGE_USAGE => {
-                written.is_complaint("usage: page P [FILE]")
-            }
             (Ok(written), Err(_)) => written.is_one_line_of_complaint(),
             (Err(_), _) => false,
         };
@@ -264,15 +250,9 @@ impl Files<'_> {
         });
     }
 
-    /// Each of these names, after the arguments that come before it, with another text on
-    /// standard input; no name, and several names; and standard input by its name.
-    fn one_name(
-        &mut self,
-        program: &str,
-        before: &[OsString],
-        all: &[OsString],
-        expected: impl Fn(&[OsString], &[u8]) -> files::Written,
-    ) -> std::io::Result<()> {
+    /// Each of these names, with another text on standard input; no name, and several
+    /// names; and standard input by its name.
+    fn one_name(&mut self, program: Program, name: &str, all: &[OsString]) -> std::io::Result<()> {
         let [less, more, cascade] = ["less", "more", "cascade"].map(OsString::from);
         let mut given: Vec<Vec<OsString>> = all.iter().map(|name| vec![name.clone()]).collect();
         given.push(vec![]);
@@ -281,179 +261,21 @@ impl Files<'_> {
         given.push(vec![OsString::new(), less.clone()]);
         given.push(vec![less.clone(), more.clone(), less.clone()]);
         for names in given {
-            let arguments = [before, &names].concat();
-            let expected = expected(&arguments, OTHER_INPUT);
-            self.case(program, expected, &arguments, (OTHER_INPUT, 20), || {
-                shown_names(&arguments)
+            let expected = files::one_text(program, &names, OTHER_INPUT);
+            self.case(name, expected, &names, (OTHER_INPUT, 20), || {
+                shown_names(&names)
             });
         }
         for text in [less, more, cascade] {
             let piped = fs::read(&text)?;
-            let expected = expected(&[before, &[text]].concat(), b"");
-            let arguments = [before, &[OsString::from("/dev/stdin")]].concat();
-            self.case(program, expected, &arguments, (&piped, 7), || {
+            let expected = files::one_text(program, &[text], &b""[..]);
+            let names = [OsString::from("/dev/stdin")];
+            self.case(name, expected, &names, (&piped, 7), || {
                 format!("{} by the name of standard input", shown(&piped))
             });
         }
         Ok(())
     }
-
-    /// A page of a text, in a file or by standard input in pieces: one of the first, or the
-    /// last that there may be, or none.
-    fn page(&mut self, text: &[u8]) -> std::io::Result<()> {
-        let number = match self.random.below(4) {
-            0 | 1 => self.random.below(3),
-            2 => self.random.below(171),
-            _ => self.random.pick(&[169, 170, 171, 1 << 61, usize::MAX]),
-        };
-        let mut arguments = vec![OsString::from(number.to_string())];
-        let mut piped = text;
-        if self.random.one_in(2) {
-            fs::write("text", text)?;
-            arguments.push("text".into());
-            piped = OTHER_INPUT;
-        }
-        let piece = self.random.between(1, 1 + piped.len() / 3);
-        let expected = files::page_text(&arguments, piped);
-        self.case("page", expected, &arguments, (piped, piece), || {
-            format!("page {number}, {}", shown(text))
-        });
-        Ok(())
-    }
-
-    /// Every spelling of the page's number, in form and not, with several texts and names.
-    fn page_numbers(&mut self) -> std::io::Result<()> {
-        let long = circuit::text(2, &texts::gates_of(&mut self.random, 2, 4_096));
-        let two_pages = circuit::text(12, &texts::gates_of(&mut self.random, 12, 25));
-        fs::write("long", &long)?;
-        fs::write("two pages", &two_pages)?;
-        for number in spellings() {
-            for names in [
-                &[][..],
-                &["long"],
-                &["two pages"],
-                &["less"],
-                &["malformed"],
-                &["overlong"],
-                &["none"],
-                &["folder"],
-                &["-"],
-                &["two pages", "two pages"],
-                &["two pages", ""],
-            ] {
-                let mut arguments = vec![number.clone()];
-                arguments.extend(names.iter().map(OsString::from));
-                let expected = files::page_text(&arguments, &two_pages[..]);
-                self.case("page", expected, &arguments, (&two_pages, 1_000), || {
-                    shown_names(&arguments)
-                });
-            }
-        }
-        for arguments in [
-            &[][..],
-            &["two pages"],
-            &["two pages", "0"],
-            &["two pages", "less"],
-        ] {
-            let arguments: Vec<OsString> = arguments.iter().map(OsString::from).collect();
-            let expected = files::page_text(&arguments, &two_pages[..]);
-            self.case("page", expected, &arguments, (&two_pages, 1_000), || {
-                shown_names(&arguments)
-            });
-        }
-        Ok(())
-    }
-}
-
-/// Numbers of a page, in form and not.
-fn spellings() -> Vec<OsString> {
-    let mut all: Vec<String> = [
-        "0",
-        "1",
-        "2",
-        "9",
-        "10",
-        "169",
-        "170",
-        "171",
-        "255",
-        "256",
-        "65536",
-        "4294967295",
-        "4294967296",
-        "4294967297",
-        "2305843009213693952",
-        "2305843009213693953",
-        "768614336404564650",
-        "768614336404564651",
-        "9223372036854775807",
-        "9223372036854775808",
-        "18446744073709551614",
-        "18446744073709551615",
-        "18446744073709551616",
-        "18446744073709551617",
-        "18446744073709551625",
-        "18446744073709551626",
-        "36893488147419103232",
-        "36893488147419103233",
-        "184467440737095516150",
-        "184467440737095516160",
-        "340282366920938463463374607431768211456",
-        "340282366920938463463374607431768211457",
-        "00",
-        "01",
-        "0170",
-        "0171",
-        "",
-        " ",
-        "-",
-        "--",
-        "-0",
-        "-1",
-        "--1",
-        "+0",
-        "+1",
-        " 1",
-        "1 ",
-        "1 2",
-        "1\n",
-        "\n",
-        "\t1",
-        "0x1",
-        "0b1",
-        "1e0",
-        "1.",
-        "1.0",
-        ".0",
-        "1,000",
-        "1_000",
-        "1u",
-        "a",
-        "one",
-        "/",
-        ":",
-        "1/",
-        "1:",
-        "٣",
-        "１",
-        "--help",
-        "less",
-    ]
-    .map(String::from)
-    .to_vec();
-    // Long ones; no argument has more bytes than a name may have.
-    for length in [19, 20, 21, 39, 100, LONGEST_NAME] {
-        for last in ["0", "1", "170", "171"] {
-            all.push(format!("{last:0>length$}"));
-        }
-        all.push("9".repeat(length));
-        all.push(format!("{:0<length$}", "1"));
-        all.push(format!("{:0>length$}", "x"));
-        all.push(format!("{:0<length$}", "-"));
-    }
-    let mut all: Vec<OsString> = all.into_iter().map(OsString::from).collect();
-    all.extend([&b"\xff"[..], b"1\xff", b"\xb1"].map(|word| OsString::from_vec(word.to_vec())));
-    all
 }
 
 fn shown_names(names: &[OsString]) -> String {
@@ -521,8 +343,8 @@ fn long_name(name: &str, length: usize) -> OsString {
     OsString::from(format!("./{slash}{}{name}", "./".repeat(more / 2 - 1)))
 }
 
-/// An answer without the line of a refusal, and no more than the kind of a circuit, a
-/// quote or a page.
+/// An answer without the line of a refusal, and no more than the kind of a circuit
+/// or a quote.
 fn kind_of(expected: &files::Written) -> String {
     let Ok(answer) = expected else {
         return "complaint".to_string();
@@ -534,7 +356,6 @@ fn kind_of(expected: &files::Written) -> String {
         ["turned-away", number, _, text] => format!("turned-away {number} {text}"),
         ["lines", ..] => "circuit".to_string(),
         ["quote", ..] => "quote".to_string(),
-        ["", "0", _, ..] => "page".to_string(),
         _ => words.join(" "),
     }
 }

@@ -4,10 +4,9 @@
 //! `compare pairs`       the C function that compares two, on many thousands of pairs
 //! `compare joins`       the C function that joins two, on many thousands of pairs
 //! `compare slips`       the C function that follows a slip, on many thousands of triples
-//! `compare pages`       the C function that draws a page, on many thousands of pages
 //! `compare programs DIRECTORY SCRATCH`
-//!                       the programs map, reduce, invert, quote, compare, join, slip
-//!                       and page in DIRECTORY, with files in SCRATCH
+//!                       the programs map, reduce, invert, quote, compare, join
+//!                       and slip in DIRECTORY, with files in SCRATCH
 //! `compare small`       reduce and invert on all small circuits, map on small
 //!                       cascades with negated controls and with kept lines, and
 //!                       compare and join on all pairs of smaller circuits, against
@@ -28,8 +27,6 @@ mod known;
 mod library;
 mod meaning;
 mod negated;
-mod others;
-mod pages;
 mod pairs;
 mod programs;
 mod random;
@@ -51,12 +48,11 @@ fn main() -> std::process::ExitCode {
         ["pairs"] => pairs::run(),
         ["joins"] => joins::run(),
         ["slips"] => slips::run(),
-        ["pages"] => pages::run(),
         ["programs", directory, scratch] => programs::run(directory.as_ref(), scratch.as_ref()),
         ["small"] => small::run(),
         _ => {
             eprintln!(
-                "usage: compare library | pairs | joins | slips | pages | programs DIRECTORY SCRATCH | small"
+                "usage: compare library | pairs | joins | slips | programs DIRECTORY SCRATCH | small"
             );
             return std::process::ExitCode::from(2);
         }

@@ -1,10 +1,9 @@
 //! The programs against the peer: those over one text from standard input to
-//! standard output, nothing on standard error, exit status 0; these, those over two texts
-//! and three, and the one that draws a page, through files (see `files`). Long circuits
-//! whose list the definitions give (see `built`), and what order 4 says of negated controls
-//! (see `negated`), are asserted without the peer; what order 5 says of spares (see
-//! `spares`), order 6 of rules 7 and 8 (see `wide`), and order 8 of kept lines (see `kept`),
-//! beside it.
+//! standard output, nothing on standard error, exit status 0; these and those over
+//! two texts and three through files (see `files`). Long circuits whose list the definitions
+//! give (see `built`), and what order 4 says of negated controls (see `negated`),
+//! are asserted without the peer; what order 5 says of spares (see `spares`), order 6 of
+//! rules 7 and 8 (see `wide`), and order 8 of kept lines (see `kept`), beside it.
 
 use crate::built;
 use crate::circuit;
@@ -248,7 +247,7 @@ fn kept_lines(report: &mut Report, random: &mut Random, ask: &mut Ask) {
     );
 }
 
-pub fn all_texts(random: &mut Random, program: Program) -> Vec<Vec<u8>> {
+fn all_texts(random: &mut Random, program: Program) -> Vec<Vec<u8>> {
     let cascade = !CIRCUIT_PROGRAMS.contains(&program);
     let mut texts: Vec<Vec<u8>> = texts::SMALL
         .iter()
@@ -367,11 +366,6 @@ impl Written {
             && self.complaint.len() > 1
             && self.complaint.ends_with(b"\n")
             && lines == 1
-    }
-
-    /// Whether it is this line alone.
-    pub fn is_complaint(&self, line: &str) -> bool {
-        self.is_one_line_of_complaint() && self.complaint == format!("{line}\n").as_bytes()
     }
 
     pub fn shown(&self) -> String {

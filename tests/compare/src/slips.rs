@@ -8,7 +8,6 @@
 
 use crate::chain::{self, redrawn};
 use crate::circuit::{self, Gate};
-use crate::others::{self, WAYS};
 use crate::random::Random;
 use crate::report::{shown, Parts, Report};
 use crate::steps::{self, followed, merging, passing, Chain, Due, Step, KINDS};
@@ -62,7 +61,15 @@ const HARMS: [&str; 10] = [
     "twice",
 ];
 const FEWEST_HARMED: u64 = 12_000;
-/// How often, at least, the second circuit of a chain is another one in each of the ways.
+/// What is done to the second circuit of a chain.
+const ENDS: [&str; 6] = [
+    "another gate",
+    "another power, control or target",
+    "a gate missing",
+    "a gate more",
+    "not 0 at the end",
+    "two gates exchanged",
+];
 const FEWEST_ENDS: u64 = 2_000;
 
 struct Slips {
@@ -77,7 +84,7 @@ struct Slips {
     /// For each harm, how often it is accepted still, refused by 12 and by 13.
     harms: [[u64; 3]; HARMS.len()],
     /// How often each end that is another circuit came up.
-    ends: [u64; WAYS.len()],
+    ends: [u64; ENDS.len()],
     /// How many steps of each kind led to the redrawings.
     drawn: [u64; chain::STEPS.len()],
 }
@@ -96,7 +103,7 @@ pub fn run() -> Report {
         numbers: [[0; 14]; 4],
         kinds: [0; KINDS.len()],
         harms: [[0; 3]; HARMS.len()],
-        ends: [0; WAYS.len()],
+        ends: [0; ENDS.len()],
         drawn: [0; chain::STEPS.len()],
     };
     slips.run_parts(&[
@@ -167,7 +174,7 @@ impl Slips {
         for (at, name) in KINDS.into_iter().enumerate() {
             all.push((name, self.kinds[at], FEWEST_STEPS[at]));
         }
-        for (name, times) in WAYS.into_iter().zip(self.ends) {
+        for (name, times) in ENDS.into_iter().zip(self.ends) {
             all.push((name, times, FEWEST_ENDS));
         }
         all.push(("triples", self.triples, FEWEST_TRIPLES));
@@ -425,8 +432,8 @@ impl Slips {
         for _ in 0..6_000 {
             let lines = texts::some_lines(&mut self.random);
             let chain = self.chain(lines, 12, 16);
-            for (which, said) in WAYS.into_iter().enumerate() {
-                let other = others::other(&mut self.random, lines, &chain.last, which);
+            for (which, said) in ENDS.into_iter().enumerate() {
+                let other = self.other_end(lines, &chain.last, which);
                 if other == chain.last {
                     continue;
                 }
@@ -436,6 +443,51 @@ impl Slips {
                 self.gives(said, texts, lengths, (13, 0, 0));
                 self.ends[which] += 1;
             }
+        }
+    }
+
+    /// Another circuit in one of the ways above; the same where there is none.
+    fn other_end(&mut self, lines: u8, gates: &[Gate], which: usize) -> Vec<Gate> {
+        let mut other = gates.to_vec();
+        let new = Gate::random(&mut self.random, lines);
+        let not_0 = Gate::Not { target: 0 };
+        let at = self.random.below(gates.len() + 1);
+        match (which, gates.get(at)) {
+            (0, Some(_)) => other[at] = new,
+            (1, Some(&gate)) => other[at] = self.near(lines, gate),
+            (2, Some(_)) => {
+                other.remove(at);
+            }
+            // The last gate, or one `not 0` at the end, which the rest of a list holds.
+            (2, None) => {
+                other.pop();
+            }
+            (3, _) => other.insert(at, new),
+            (4, _) if other.last() == Some(&not_0) && self.random.one_in(2) => {
+                other.pop();
+            }
+            (4, _) => other.push(not_0),
+            (5, Some(_)) => {
+                let with = self.random.below(gates.len());
+                other.swap(at, with);
+            }
+            _ => {}
+        }
+        other
+    }
+
+    /// A gate that differs from this one in its power, its control or its target alone; a
+    /// NOT on the same line for a gate with a control, and the other way round.
+    fn near(&mut self, lines: u8, gate: Gate) -> Gate {
+        let every = circuit::every_gate(lines);
+        let near: Vec<Gate> = every
+            .into_iter()
+            .filter(|&other| is_near(gate, other))
+            .collect();
+        if near.is_empty() {
+            gate
+        } else {
+            self.random.pick(&near)
         }
     }
 
@@ -937,8 +989,8 @@ impl Slips {
                     self.gives_due(&name, lines, first, &slip, last);
                 }
             }
-            for which in 0..WAYS.len() {
-                let mut other = others::other(&mut self.random, lines, last, which);
+            for which in 0..ENDS.len() {
+                let mut other = self.other_end(lines, last, which);
                 other.truncate(MOST);
                 self.gives_due(&name, lines, first, &chain.steps, &other);
             }
@@ -1292,10 +1344,10 @@ const SMALL: [(&str, &str, &str); 5] = [
 ];
 
 /// A text, what it is refused with by itself, and what it holds where it is accepted.
-pub struct Known<T> {
-    pub text: Vec<u8>,
-    pub refusal: (u64, u64),
-    pub holds: T,
+struct Known<T> {
+    text: Vec<u8>,
+    refusal: (u64, u64),
+    holds: T,
 }
 
 impl<T: Default> Known<T> {
@@ -1308,28 +1360,22 @@ impl<T: Default> Known<T> {
     }
 }
 
-impl Known<(u8, Vec<Gate>)> {
-    /// A circuit, with its lines and gates.
-    pub fn circuit(lines: u8, gates: &[Gate]) -> Self {
-        Known {
-            text: circuit::text(lines, gates),
-            refusal: (0, 0),
-            holds: (lines, gates.to_vec()),
-        }
-    }
-}
-
-/// Circuits, and texts that are none.
-pub fn known_circuits() -> Vec<Known<(u8, Vec<Gate>)>> {
+/// Circuits, with their lines and gates.
+fn known_circuits() -> Vec<Known<(u8, Vec<Gate>)>> {
+    let good = |lines: u8, gates: &[Gate]| Known {
+        text: circuit::text(lines, gates),
+        refusal: (0, 0),
+        holds: (lines, gates.to_vec()),
+    };
     let nots = vec![Gate::Not { target: 0 }; MOST];
     let full = circuit::text(32, &nots);
     let mut overlong = full.clone();
     overlong.resize(60_001, b'\n');
     vec![
-        Known::circuit(3, &nots[..3]),
-        Known::circuit(3, &nots[..1]),
-        Known::circuit(4, &nots[..3]),
-        Known::circuit(32, &nots),
+        good(3, &nots[..3]),
+        good(3, &nots[..1]),
+        good(4, &nots[..3]),
+        good(32, &nots),
         Known::bad(b"", 3, 1),
         Known::bad(b"(lines 3)\n(cn 0 1)\n(v 1 2)", 3, 3),
         Known::bad(b"(lines 3)\n(mct (0 1) 2)\n", 3, 2),
@@ -1393,6 +1439,23 @@ fn texts_of(lines: u8, first: &[Gate], slip: &[Step], second: &[Gate]) -> [Vec<u
         steps::text(slip),
         circuit::text(lines, second),
     ]
+}
+
+/// Whether two gates differ in one part alone, or are a NOT and a gate with a control on
+/// the same target.
+fn is_near(one: Gate, other: Gate) -> bool {
+    let parts = |gate: Gate| match gate {
+        Gate::Not { target } => [99, 99, target],
+        Gate::Powered {
+            power,
+            control,
+            target,
+        } => [power, control, target],
+    };
+    let (one, other) = (parts(one), parts(other));
+    let same = (0..3).filter(|&part| one[part] == other[part]).count();
+    let a_not = (one[0] == 99) != (other[0] == 99);
+    same == 2 || (a_not && one[2] == other[2])
 }
 
 /// Slips of exactly so many bytes, none of them in form.

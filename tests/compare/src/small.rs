@@ -631,7 +631,7 @@ fn malformed(report: &mut Report, good: &[u8], text: &[u8], line: u64) {
 
 /// All circuits on some lines, numbered by length and then in dictionary order:
 /// the least number of a class is the list expected for all of it.
-pub struct Space {
+struct Space {
     /// All gates on these lines, in gate order.
     alphabet: Vec<Gate>,
 }
@@ -642,7 +642,7 @@ struct Classes {
 }
 
 impl Space {
-    pub fn new(lines: u8) -> Space {
+    fn new(lines: u8) -> Space {
         let alphabet = circuit::every_gate(lines);
         assert!(alphabet
             .windows(2)
@@ -650,7 +650,7 @@ impl Space {
         Space { alphabet }
     }
 
-    pub fn circuits_up_to(&self, length: usize) -> usize {
+    fn circuits_up_to(&self, length: usize) -> usize {
         (0..=length as u32)
             .map(|l| self.alphabet.len().pow(l))
             .sum()
@@ -672,7 +672,7 @@ impl Space {
         places
     }
 
-    pub fn gates(&self, node: usize) -> Vec<Gate> {
+    fn gates(&self, node: usize) -> Vec<Gate> {
         self.places(node)
             .iter()
             .map(|&place| self.alphabet[place])

@@ -4,8 +4,8 @@
 mod declared;
 
 use declared::{
-    yilgorza_compare, yilgorza_gate, yilgorza_invert, yilgorza_join, yilgorza_map, yilgorza_page,
-    yilgorza_reduce, yilgorza_slip,
+    yilgorza_compare, yilgorza_gate, yilgorza_invert, yilgorza_join, yilgorza_map, yilgorza_reduce,
+    yilgorza_slip,
 };
 use peer::{several, Job, Outcome};
 
@@ -62,6 +62,7 @@ pub fn call(job: Job, text: &Area<u8>, list: &mut Area<u16>, answer: &mut Area<u
         Job::Reduce => yilgorza_reduce,
         Job::Invert => yilgorza_invert,
     };
+    // One more word before and after, to see writes beside the four.
     let mut outcome = [u64::MAX; 6];
     let text = text.inside();
     let list = list.inside_mut();
@@ -78,12 +79,6 @@ pub fn call(job: Job, text: &Area<u8>, list: &mut Area<u16>, answer: &mut Area<u
             outcome.as_mut_ptr().add(1),
         );
     }
-    one_outcome(outcome)
-}
-
-/// What a call of a job over one text left in its outcome, of which one more word before
-/// and after shows writes beside the four.
-fn one_outcome(outcome: [u64; 6]) -> Outcome {
     let [before, number, line, gates, bytes, after] = outcome;
     assert!(
         before == u64::MAX && after == u64::MAX,
@@ -95,28 +90,6 @@ fn one_outcome(outcome: [u64; 6]) -> Outcome {
         gates,
         bytes,
     }
-}
-
-/// Calls the C function that draws a page.
-pub fn page(text: &Area<u8>, list: &mut Area<u16>, number: u64, answer: &mut Area<u8>) -> Outcome {
-    let mut outcome = [u64::MAX; 6];
-    let text = text.inside();
-    let list = list.inside_mut();
-    let answer = answer.inside_mut();
-    // The areas are live, of the lengths given, and don't overlap.
-    unsafe {
-        yilgorza_page(
-            text.as_ptr(),
-            text.len(),
-            list.as_mut_ptr(),
-            list.len(),
-            number,
-            answer.as_mut_ptr(),
-            answer.len(),
-            outcome.as_mut_ptr().add(1),
-        );
-    }
-    one_outcome(outcome)
 }
 
 /// What a call of a job over several texts left in its outcome, of which one more

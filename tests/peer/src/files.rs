@@ -1,18 +1,15 @@
 //! The programs: what each writes for the names of files that it is given.
 //!
 //! A program over one text reads the file that is named, else standard input; one
-//! over several takes a name for each. The one that draws a page has its number before the
-//! name.
+//! over several takes a name for each.
 
-use crate::{comparison, joining, pages, slips, Program, LONGEST_TEXT};
+use crate::{comparison, joining, slips, Program, LONGEST_TEXT};
 use std::ffi::OsString;
 use std::fs::File;
 use std::io::{self, Read, Write};
 
 /// The longest name of a file that a program takes, in bytes.
 pub const LONGEST_NAME: usize = 4_095;
-/// How the program that draws a page is used.
-pub const PAGE_USAGE: &str = "usage: peer-page P [FILE]";
 
 /// What a program writes: the answer to standard output, or one line to standard
 /// error.
@@ -44,16 +41,12 @@ impl Pairing {
 
 /// What a program over one text writes for its arguments and its standard input.
 pub fn one_text(program: Program, names: &[OsString], input: impl Read) -> Written {
-    let text = named_text(names, input, "usage: [FILE]")?;
+    let text = match names {
+        [] => whole_text(input).map_err(|error| format!("standard input: {error}"))?,
+        [name] if is_name(name) => text_of(name)?,
+        _ => return Err("usage: [FILE]".to_string()),
+    };
     Ok(crate::program_answer(program, &text))
-}
-
-/// What the program that draws a page writes for its arguments and its standard input.
-pub fn page_text(arguments: &[OsString], input: impl Read) -> Written {
-    let (number, names) = arguments.split_first().ok_or(PAGE_USAGE)?;
-    let number = page_number(number).ok_or(PAGE_USAGE)?;
-    let text = named_text(names, input, PAGE_USAGE)?;
-    Ok(pages::answer(&text, number))
 }
 
 /// What a program over two texts writes for its arguments.
@@ -83,11 +76,6 @@ pub fn run_one(program: Program) -> io::Result<()> {
     write(one_text(program, &arguments(), io::stdin().lock()))
 }
 
-/// The whole of the program that draws a page.
-pub fn run_page() -> io::Result<()> {
-    write(page_text(&arguments(), io::stdin().lock()))
-}
-
 /// The whole of a program over two texts.
 pub fn run_two(program: Pairing) -> io::Result<()> {
     write(two_texts(program, &arguments()))
@@ -109,30 +97,10 @@ fn write(written: Written) -> io::Result<()> {
     }
 }
 
-/// One or more digits. A number too large for 64 bits is the largest that they have.
-fn page_number(word: &OsString) -> Option<u64> {
-    let digits = word.as_encoded_bytes();
-    let value = |value: u64, digit: &u8| {
-        let tens = value.saturating_mul(10);
-        tens.saturating_add(u64::from(digit - b'0'))
-    };
-    let in_form = !digits.is_empty() && digits.iter().all(u8::is_ascii_digit);
-    in_form.then(|| digits.iter().fold(0, value))
-}
-
 /// A name that begins with `-` is taken for an option, and there is none.
 fn is_name(name: &OsString) -> bool {
     let bytes = name.as_encoded_bytes();
     (1..=LONGEST_NAME).contains(&bytes.len()) && bytes[0] != b'-'
-}
-
-/// The text in the file that is named, or that of standard input.
-fn named_text(names: &[OsString], input: impl Read, usage: &str) -> Result<Vec<u8>, String> {
-    match names {
-        [] => whole_text(input).map_err(|error| format!("standard input: {error}")),
-        [name] if is_name(name) => text_of(name),
-        _ => Err(usage.to_string()),
-    }
 }
 
 /// The text in a file. The name is quoted, so that the complaint is one line.
@@ -244,67 +212,6 @@ mod tests {
         }
         for name in ["/", "/none\nsuch"] {
             assert!(complaint(run(&[name])).starts_with('"'));
-        }
-    }
-
-    #[test]
-    fn a_page_of_a_file_that_is_named_else_of_standard_input() {
-        let gates = "(not 0)\n".repeat(25);
-        let input = format!("(lines 1)\n{gates}");
-        let run = |arguments: &[&str]| page_text(&named(arguments), input.as_bytes());
-        let row = |gates: usize| format!(" 0 {:-<72}\n", "-+-".repeat(gates)).into_bytes();
-        for number in ["0", "00", "000000000000000000000000000000"] {
-            assert_eq!(run(&[number]), Ok(row(24)));
-        }
-        for number in ["1", "01", "00000000000000000000000000000001"] {
-            assert_eq!(run(&[number]), Ok(row(1)));
-        }
-        let digits = "9".repeat(100);
-        for number in [
-            "2",
-            "10",
-            "170",
-            "171",
-            "2305843009213693952",
-            "18446744073709551614",
-            "18446744073709551615",
-            "18446744073709551616",
-            "18446744073709551617",
-            "184467440737095516160",
-            "36893488147419103232",
-            "340282366920938463463374607431768211456",
-            &digits,
-        ] {
-            let away = Ok(b"(turned-away 14 0)\n".to_vec());
-            assert_eq!(run(&[number]), away, "{number}");
-        }
-        for number in ["0", "1", "171", "18446744073709551616"] {
-            let away = Ok(b"(turned-away 3 1)\n".to_vec());
-            assert_eq!(run(&[number, "/dev/null"]), away);
-        }
-        for number in [
-            "", " ", "-", "-0", "-1", "+1", " 1", "1 ", "1.", "1.0", "0x1", "1e0", "x", "1\n", "٣",
-            "-x", "--help",
-        ] {
-            for arguments in [&[number][..], &[number, "/dev/null"]] {
-                assert_eq!(complaint(run(arguments)), PAGE_USAGE, "{number}");
-            }
-        }
-        let long = "x".repeat(LONGEST_NAME + 1);
-        for arguments in [
-            &[][..],
-            &["/dev/null"],
-            &["0", ""],
-            &["0", "-"],
-            &["0", "-x"],
-            &["0", &long],
-            &["0", "/dev/null", "/dev/null"],
-            &["/dev/null", "0"],
-        ] {
-            assert_eq!(complaint(run(arguments)), PAGE_USAGE);
-        }
-        for name in ["/", "/none\nsuch"] {
-            assert!(complaint(run(&["0", name])).starts_with('"'));
         }
     }
 }

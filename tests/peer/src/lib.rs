@@ -1,21 +1,19 @@
-//! A second implementation of the jobs (map, reduce, invert, join, compare, slip, page),
+//! A second implementation of the jobs (map, reduce, invert, join, compare, slip),
 //! written from the scope document and the orders alone, in plain Rust. The comparisons
 //! take it as the expected answer, the benchmark as the peer in speed.
 //!
 //! Modules: `gate` (gates, their numbers and when two pass), `reader` (the two
 //! texts and rules 3 to 9), `expansion` (from mct gates to NCV gates),
-//! `reduction` (merge to a fixed point, then order by selection), `pages` (the job over
-//! one text that draws it), `joining` and `comparison` (the jobs over two texts), `slips`
-//! (the job over three), `several` (the outcome of such a job), `files` (names of files,
-//! and the programs). This file holds the other jobs over one text, with the lent memory
-//! and rules 1, 2 and 10.
+//! `reduction` (merge to a fixed point, then order by selection), `joining` and
+//! `comparison` (the jobs over two texts), `slips` (the job over three), `several` (the
+//! outcome of such a job), `files` (names of files, and the programs). This file holds
+//! the jobs over one text, with the lent memory and rules 1, 2 and 10.
 
 pub mod comparison;
 pub mod expansion;
 pub mod files;
 pub mod gate;
 pub mod joining;
-pub mod pages;
 pub mod reader;
 pub mod reduction;
 pub mod several;
@@ -34,21 +32,14 @@ pub const MOST_MCTS: usize = 256;
 /// The longest answer text, in bytes: no line of it has more than 11.
 pub const LONGEST_ANSWER: usize = 11 * (MOST_GATES + 1);
 
-/// What a job over one text returns: the number, the line, the gates of the list given
-/// and the bytes written.
+/// What a job over one text returns: the number 0 to 10, the line, the gates of
+/// the reduced list and the bytes written.
 #[derive(Clone, Copy, Debug, PartialEq, Eq)]
 pub struct Outcome {
     pub number: u64,
     pub line: u64,
     pub gates: u64,
     pub bytes: u64,
-}
-
-impl Outcome {
-    /// The form in which a program writes a refusal.
-    fn turned_away(self) -> Vec<u8> {
-        format!("(turned-away {} {})\n", self.number, self.line).into_bytes()
-    }
 }
 
 /// A refusal: its number and its line (0 where the rule has no line).
@@ -144,13 +135,7 @@ fn reduced_into(
     list: &mut [u16],
     area: Option<&mut [u8]>,
 ) -> Outcome {
-    settled(circuit.and_then(|circuit| answered(circuit, area)), list)
-}
-
-/// What a job over one text leaves in its list and returns, with the gates and the bytes
-/// of its answer or its refusal.
-fn settled(answered: Result<(Vec<Gate>, usize), Refusal>, list: &mut [u16]) -> Outcome {
-    match answered {
+    match circuit.and_then(|circuit| answered(circuit, area)) {
         Err(refusal) => {
             if refusal.clears() {
                 fill(list, &[]);
@@ -185,19 +170,15 @@ fn answered(circuit: Circuit, area: Option<&mut [u8]>) -> Result<(Vec<Gate>, usi
     Ok((circuit.gates, bytes))
 }
 
-/// The text of a circuit at the front of the area, and its length.
+/// Rule 10: the text of a circuit at the front of the area, and its length.
 fn write_text(circuit: &Circuit, area: &mut [u8]) -> Result<usize, Refusal> {
     let text = circuit_text(circuit);
-    front_of(area, text.len())?.copy_from_slice(&text);
-    Ok(text.len())
-}
-
-/// Rule 10: so many bytes at the front of the area.
-fn front_of(area: &mut [u8], bytes: usize) -> Result<&mut [u8], Refusal> {
-    area.get_mut(..bytes).ok_or(Refusal {
+    let front = area.get_mut(..text.len()).ok_or(Refusal {
         number: 10,
         line: 0,
-    })
+    })?;
+    front.copy_from_slice(&text);
+    Ok(text.len())
 }
 
 /// Rules 1 to 9: the circuit of a text, and of the list that is judged with it, if
@@ -275,7 +256,7 @@ pub fn program_answer(program: Program, text: &[u8]) -> Vec<u8> {
     let mut answer = vec![0u8; answer_len];
     let outcome = job.run(text, &mut list, &mut answer);
     if outcome.number != 0 {
-        return outcome.turned_away();
+        return format!("(turned-away {} {})\n", outcome.number, outcome.line).into_bytes();
     }
     match program {
         Program::Quote => format!("(quote {})\n", outcome.gates).into_bytes(),

@@ -2,7 +2,6 @@
 use borrow.Author.Rules.{rules}
 use mathlib.Core.Path.{◌∙◌}
 use native.Mathlib.Omega.{arith}
-use Rattle.jobs.specs.Handing.{text_of}
 use Rattle.jobs.proofs.Handed.{too_short, long_enough}
 use Rattle.jobs.proofs.answer_text.Statement.{statement}
 use Rattle.jobs.proofs.answer_text.Tie as tie
@@ -19,7 +18,7 @@ refuse-requires c κs = search rules
 returns : tie.Need-returns
 returns c =
     let b = c.before.before.before.before.before.args in
-    let w = too_short (text_of b.head b.m b.t4) b.m b.room c.before.before.measure.result b.t4 b.answer.now c.before.before.measure.ensures (omega arith) in
+    let w = too_short b.head b.m b.room c.before.before.measure.result b.t4 b.answer.now c.before.before.measure.ensures (omega arith) in
     (c.refuse.ensures ∙ w.0, w.1)
 
 slice-aggregate-write-circuit : tie.Need-slice-aggregate-write-circuit
@@ -39,7 +38,7 @@ returns-2 c =
     let b = c.before.before.before.before.before.before.before.before.before.before.args in
     let x = c.before.before.before.write-circuit in
     let y = c.before.before.before.before.before.before.before.measure in
-    let w = long_enough (text_of b.head b.m b.t4) b.m b.room y.result x.result b.t4 b.answer.now x.new.1.1.1.0 y.ensures (omega arith) x.ensures.0 x.ensures.1 in
+    let w = long_enough b.head b.m b.room y.result x.result b.t4 b.answer.now x.new.1.1.1.0 y.ensures (omega arith) x.ensures.0 x.ensures.1 in
     (c.succeed.ensures ∙ w.0, w.1)
 
 pub answer-text-spec : {M : Type 1} → statement M
