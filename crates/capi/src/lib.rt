@@ -1,4 +1,6 @@
 // The jobs as C functions, and one that reads a gate record: gates are numbers, and so are the parts of the outcome.
+#![tactic(auto)]
+
 ghost use Rattle.std.specs.Prelude.{◌≡◌, length};
 ghost use Rattle.records.specs.Records.{Fits};
 ghost use Rattle.storing.specs.Storing.{stored};

@@ -1,4 +1,5 @@
 // Cascades of multiple-control Toffoli gates and their expansion into NCV gates: definitions and theorems, and the control.
+#![tactic(auto)]
 
 // A control: its line, and its sign; a negated one is met when its line is 0.
 #[derive(Drop)]

@@ -1,4 +1,6 @@
 // Compares the circuit texts of two files: are they one circuit, and which comes first if not.
+#![tactic(auto)]
+
 ghost use Rattle.std.specs.Prelude.{◌≡◌};
 ghost use Rattle.ordering.specs.declared.Comparison.{Comparison};
 ghost use Rattle.ordering.specs.Comparing.{count_of};

@@ -1,4 +1,6 @@
 // The job compare: are two files one circuit, and which comes first if not.
+#![tactic(auto)]
+
 ghost use Rattle.std.specs.Prelude.{◌≡◌, ◌≤◌, length};
 ghost use Rattle.loading.specs.Loaded.{Renderable};
 ghost use Rattle.text.specs.declared.Kind.TheVariants.{Circuit};

@@ -1,4 +1,6 @@
 // Circuits as numbers of gates: the inverse of one, in place, and one behind another.
+#![tactic(auto)]
+
 ghost use Rattle.std.specs.Prelude.{◌≡◌, ◌++◌, ◌+◌, ◌≤◌, length, take};
 ghost use Rattle.gates.specs.Code.{AllCodes};
 ghost use Rattle.composition.specs.Composition.{inverse_codes};

@@ -1,4 +1,6 @@
 // The programs over one text: the text read from a file or from standard input, a job done on it, and the bytes of its answer written.
+#![tactic(auto)]
+
 ghost use Rattle.std.specs.Prelude.{[], ◌≤◌, length};
 ghost use Rattle.jobs.specs.Jobs.{mapping};
 ghost use Rattle.jobs.specs.Handing.{Own};

@@ -1,5 +1,7 @@
 // The papers' examples that are run and not proved. Each line of the output names a job and an example, gives the refusal number and the
 // line that the papers say and those that came back, and says whether they agree.
+#![tactic(auto)]
+
 ghost use Rattle.std.specs.Prelude.{◌≤◌, length};
 ghost use Rattle.io.specs.Counts.{IsPrefixLen};
 

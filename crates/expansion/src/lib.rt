@@ -1,4 +1,6 @@
 // The expansion of a NOT with controls, written as numbers of gates into a lent list.
+#![tactic(auto)]
+
 ghost use Rattle.std.specs.Prelude.{◌≡◌, ◌∷◌, [], ◌++◌, ◌+◌, ◌-◌, ◌/◌, ◌≤◌, ◌<◌, length, get_or, drop};
 ghost use Rattle.std.proofs.Math.Seq.{slice};
 ghost use Rattle.gates.specs.Code.{AllCodes, gates as gates_of};

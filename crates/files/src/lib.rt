@@ -1,4 +1,6 @@
 // How a program reads its texts, from the files that its arguments name or from standard input, and writes.
+#![tactic(auto)]
+
 ghost use Rattle.std.specs.Prelude.{◌≤◌, length};
 ghost use Rattle.files.specs.Input.{Within, WithinTwo, WithinThree};
 

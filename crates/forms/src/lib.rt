@@ -1,4 +1,6 @@
 // What the programs over several texts write: a refusal with its text number, and words.
+#![tactic(auto)]
+
 ghost use Rattle.std.specs.Prelude.{◌≡◌, ◌++◌, ◌+◌, ◌≤◌, length, drop};
 ghost use Rattle.writing.specs.Written.{Puts};
 ghost use Rattle.forms.specs.Forms.{three_numbers, text_turned_away};

@@ -1,6 +1,6 @@
 -- The dictionary order is an order; and pushing gates gives a shorter circuit, or one as long that is not after them.
 -- Assumes nothing.
-use mathlib.Core.Path.{◌≡◌, refl, ap, ◌∙◌}
+use mathlib.Core.Path.{◌≡◌, refl, ap, sym, ◌∙◌}
 use mathlib.Core.List.{List, [], ◌∷◌, ◌++◌, append-nil, append_assoc}
 use Prim.Native.Nat.{suc, ◌<◌}
 use native.Mathlib.Omega.{arith}
@@ -48,12 +48,40 @@ pub ≼_trans : {c d e : List Gate} → c ≼ d → d ≼ e → c ≼ e
 ≼_trans (same p) (less m) = less m
 ≼_trans (same p) (same q) = same (≼_trans p q)
 
+-- the first gate of a list, and the others
+first_of_list : Gate → List Gate → Gate
+first_of_list g [] = g
+first_of_list g (h ∷ c) = h
+
+others : List Gate → List Gate
+others [] = []
+others (g ∷ c) = c
+
+same_first : {g h : Gate} {c d : List Gate} → (g ∷ c) ≡ (h ∷ d) → g ≡ h
+unfolding first_of_list
+same_first {g = g} e = ap (first_of_list g) e
+
+same_others : {g h : Gate} {c d : List Gate} → (g ∷ c) ≡ (h ∷ d) → c ≡ d
+unfolding others
+same_others e = ap others e
+
+empty_not : {g : Gate} {c : List Gate} → [] ≡ (g ∷ c) → ⊥
+empty_not e = grind (arith, e)
+
+-- of two lists, each not after the other, where what stands on each side is only known to be equal
+between : {c d e f : List Gate} → c ≼ d → e ≼ f → c ≡ f → d ≡ e → c ≡ d
+between none none i j = sym j
+between none (less m) i j = absurd (empty_not i)
+between none (same q) i j = absurd (empty_not i)
+between (less l) none i j = absurd (empty_not (sym j))
+between (less l) (less m) i j = absurd (earlier_irrefl (earlier_trans l (rw (same_first j, same_first i) m)))
+between (less l) (same q) i j = absurd (earlier_irrefl (rw (same_first i ∙ sym (same_first j)) at l))
+between (same p) none i j = absurd (empty_not (sym j))
+between (same p) (less m) i j = absurd (earlier_irrefl (rw (sym (same_first j) ∙ same_first i) at m))
+between (same {g} p) (same q) i j = ap (λ w. g ∷ w) (between p q (same_others i) (same_others j))
+
 pub ≼_antisym : {c d : List Gate} → c ≼ d → d ≼ c → c ≡ d
-≼_antisym none none = refl
-≼_antisym (less l) (less m) = absurd (earlier_irrefl (earlier_trans l m))
-≼_antisym (less l) (same q) = absurd (earlier_irrefl l)
-≼_antisym (same p) (less m) = absurd (earlier_irrefl m)
-≼_antisym (same {g} p) (same q) = ap (λ w. g ∷ w) (≼_antisym p q)
+≼_antisym p q = between p q refl refl
 
 pub ≼_append : {c d : List Gate} (e : List Gate) → c ≼ d → length c ≡ length d → (c ++ e) ≼ (d ++ e)
 ≼_append {d = []} e none h = ≼_refl e

@@ -38,6 +38,7 @@ free_pushed (a ∷ v) {g} {h} p f = go (λ x. free_pushed v p x) (turn a v g)
 -- ---- fronts: a push adds at most the site of the gate pushed, and only if that was free
 
 free_front : {g s : Gate} {v : List Gate} → Free g v → Front s v → Passes s g
+free_front {g = g} {s = s} free_nil x = elim x [ ]
 free_front (free_cons p f) (here e) = passes_sym (passes_same_right e p)
 free_front (free_cons p f) (there q r) = free_front f r
 

@@ -57,7 +57,7 @@ module _ (n : ℕ) where
   -- ---- a push is a chain
 
   -- a gate goes left past all that it passes
-  slide : {v : List Gate} {g : Gate} → AllValid n v → Valid n g → Free g v → Reaches n (v ++ (g ∷ [])) (g ∷ v)
+  slide : {g : Gate} {v : List Gate} → AllValid n v → Valid n g → Free g v → Reaches n (v ++ (g ∷ [])) (g ∷ v)
   slide h k free_nil = stop
   slide h k (free_cons {v = v} p f) =
       reaches_trans (reaches_cons h.0 (slide h.1 k f)) (more (step [] v (pass (passes_sym p)) (h.0, (k, h.1)) (k, (h.0, h.1))) stop)

@@ -36,7 +36,7 @@ small_nf c = small_pushes [] c
 
 pub normal_pushes : {v : List Gate} (c : List Gate) → Normal v → Normal (pushes v c)
 normal_pushes [] w = w
-normal_pushes (g ∷ c) w = normal_pushes c (normal_push g w)
+normal_pushes {v} (g ∷ c) w = normal_pushes {v = push v g} c (normal_push g w)
 
 module _ (n : ℕ) where
   -- ---- a step leaves the normal form as it was

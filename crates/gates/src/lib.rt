@@ -1,4 +1,6 @@
 // A gate by value, and a gate as a number.
+#![tactic(auto)]
+
 ghost use Rattle.std.specs.Prelude.{◌≡◌, ◌<◌};
 ghost use Rattle.gates.specs.Code.{Code, code, gate};
 ghost use Rattle.gates.specs.Inverse.{inverted as inverted_gate};

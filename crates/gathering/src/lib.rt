@@ -1,4 +1,6 @@
 // What is kept of the controls of an mct line, gathered one after the other.
+#![tactic(auto)]
+
 ghost use Rattle.std.specs.Prelude.{◌≡◌, ◌+◌, ◌<◌, ◌^◌};
 ghost use Rattle.gathering.specs.Gathering.{added, no_lines, noted, no_controls};
 

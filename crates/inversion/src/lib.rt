@@ -1,4 +1,6 @@
 // The job invert: a circuit that undoes the one read.
+#![tactic(auto)]
+
 ghost use Rattle.std.specs.Prelude.{◌≤◌, length};
 ghost use Rattle.text.specs.declared.Kind.TheVariants.{Circuit};
 ghost use Rattle.jobs.specs.Jobs.{judged_text};

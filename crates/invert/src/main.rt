@@ -1,4 +1,6 @@
 // Inverts a circuit text, of the file named or else on standard input.
+#![tactic(auto)]
+
 ghost use Rattle.console.specs.Output.{Answers};
 ghost use Rattle.invert.specs.Output.{Prints};
 

@@ -1,4 +1,6 @@
 // Two jobs: map a cascade text, or quote its gate count alone; reduce a circuit text.
+#![tactic(auto)]
+
 ghost use Rattle.std.specs.Prelude.{◌≡◌, [], ◌∷◌, ◌≤◌, length};
 ghost use Rattle.text.specs.Judging.{first};
 ghost use Rattle.rules.specs.Verdicts.{seen_verdict};

@@ -1,4 +1,6 @@
 // Joins the circuit texts of two files, the first before the second.
+#![tactic(auto)]
+
 ghost use Rattle.console.specs.Output.{Answers};
 ghost use Rattle.join.specs.Output.{Prints};
 

@@ -1,4 +1,6 @@
 // The job join: one circuit behind another.
+#![tactic(auto)]
+
 ghost use Rattle.std.specs.Prelude.{◌≤◌, length};
 ghost use Rattle.loading.specs.Loaded.{Renderable};
 ghost use Rattle.jobs.specs.Handing.{exit_of_text};

@@ -1,4 +1,6 @@
 // Judges a line of a text, at a place: rules 3 to 9, tried in order.
+#![tactic(auto)]
+
 ghost use Rattle.std.specs.Prelude.{◌≡◌, ◌&&◌, ◌≤◌, leb, length};
 ghost use Rattle.text.specs.Heads.{line_below};
 ghost use Rattle.judging.specs.Seen.{HeadLineOf, KeepLineOf, GateLineOf, gate_line_ahead, MctLineOf, mct_line_ahead};

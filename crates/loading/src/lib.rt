@@ -1,4 +1,6 @@
 // Loads a text: judges it line by line, and leaves its circuit, as read or expanded, as gate codes in a lent slice.
+#![tactic(auto)]
+
 ghost use Rattle.std.specs.Prelude.{◌≡◌, ◌≤◌, length, drop};
 ghost use Rattle.text.specs.declared.Kind.TheVariants.{Cascade, Circuit};
 ghost use Rattle.text.specs.Judging.{judge};

@@ -3,6 +3,8 @@
 // is removed; a gate without partner is pushed at the end.
 //
 // A gate is its number, and a removed one keeps its place with the power 0, until the gaps are closed.
+#![tactic(auto)]
+
 ghost use Rattle.std.specs.Prelude.{◌≡◌, ◌+◌, ◌*◌, ◌/◌, ◌≤◌, ◌<◌, length, take, get_or, set};
 ghost use Rattle.gates.specs.Code.{Code, AllCodes, joined};
 ghost use Rattle.stacks.specs.Stacks.{Stacked};

@@ -1,4 +1,6 @@
 // The order of circuits: how two lists of gates, each on its number of lines, compare.
+#![tactic(auto)]
+
 ghost use Rattle.std.specs.Prelude.{◌≡◌, ◌≤◌, length, take};
 ghost use Rattle.ordering.specs.Comparing.{count_of, compare_numbers, dictionary};
 

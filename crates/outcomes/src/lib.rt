@@ -1,4 +1,6 @@
 // What jobs hand over to the thin functions above them: a refusal, or success with the gates of so many codes.
+#![tactic(auto)]
+
 ghost use Rattle.std.specs.Prelude.{◌≡◌, cond, leb};
 ghost use Rattle.outcomes.specs.Outcomes.{refusal_filling, success_filling, refused, refused_two, succeeded_two, succeeded, with_text};
 

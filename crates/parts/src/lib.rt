@@ -1,4 +1,6 @@
 // A record of the gate list, read as kind, control and target.
+#![tactic(auto)]
+
 ghost use Rattle.std.specs.Prelude.{◌≡◌};
 ghost use Rattle.gates.specs.Code.{Code};
 ghost use Rattle.gates.specs.Whether.{Whether};

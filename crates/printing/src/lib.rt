@@ -1,1 +1,2 @@
 // What the programs write: theorems only.
+#![tactic(auto)]

@@ -1,4 +1,6 @@
 // Quotes the gate count of a cascade text, of the file named or else on standard input.
+#![tactic(auto)]
+
 use console::Program;
 
 fn main() {

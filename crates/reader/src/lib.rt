@@ -1,5 +1,7 @@
 // A text and a place in it that only moves forward, as one struct: `new` sets the place to 0, and `moved` sets it to one that is not before it. The
 // lines are read by covered functions on the text and the place.
+#![tactic(auto)]
+
 ghost use Rattle.std.specs.Prelude.{◌≡◌, ◌≤◌, length};
 
 #[derive(Drop)]

@@ -1,4 +1,6 @@
 // The cursor: a line is read at a place of the text, and the place after it is given.
+#![tactic(auto)]
+
 ghost use Rattle.std.specs.Prelude.{◌≡◌, ◌≤◌, length, drop};
 ghost use Rattle.text.specs.Reading.{control, controls, list, parse};
 ghost use Rattle.reading.specs.Seen.{only_head, only_keep, only_gate, only_mct, all_gathered, with_gathered, kept_gathered, followed, two_after, or_powered};

@@ -1,4 +1,6 @@
 // Reduces a circuit text, of the file named or else on standard input.
+#![tactic(auto)]
+
 use console::Program;
 
 fn main() {

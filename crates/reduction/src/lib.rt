@@ -1,5 +1,7 @@
 // A list of gates reduced in place, a gate as its number, in two steps: each gate in turn is merged with its partner among those before it, or
 // pushed at their end, which leaves a circuit with the fewest gates of those linked to the list; and this is brought into dictionary order.
+#![tactic(auto)]
+
 ghost use Rattle.std.specs.Prelude.{◌≡◌, ◌++◌, ◌-◌, ◌≤◌, length, take, drop, replicate};
 ghost use Rattle.gates.specs.Code.{AllCodes};
 ghost use Rattle.reduction.specs.Reducing.{ReducedTo};

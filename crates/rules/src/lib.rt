@@ -1,4 +1,6 @@
 // What the rules say of a line in form: rules 4 to 9, tried in order.
+#![tactic(auto)]
+
 ghost use Rattle.std.specs.Prelude.{◌≡◌, false, ◌&&◌, ◌≤◌, leb, get_or};
 ghost use Rattle.spares.specs.Marks.{none_left};
 ghost use Rattle.rules.specs.Verdicts.{seen_verdict, tried, over, GateVerdict, MctVerdict};

@@ -6,6 +6,8 @@
 // gate that is open on both of its lines is in front: its site is in the set `rows`, its place in `places`. When a run is used up, the next one
 // is opened use by use, along `next_target` and `next_control`, which have, by place, the next use of the gate's lines. A line is a slot: line c is
 // c + 1, and 0 is none, which a NOT has as control.
+#![tactic(auto)]
+
 ghost use Rattle.std.specs.Prelude.{◌≡◌, ◌≢◌, true, false, ℕ, ◌≤◌, ◌<◌, length, take, get_or, set, replicate};
 ghost use Rattle.gates.specs.Code.{gates, AllCodes};
 ghost use Rattle.partners.specs.Shortest.{Shortest};

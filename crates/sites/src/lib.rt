@@ -1,5 +1,7 @@
 // A set of sites, of which the lowest is found in constant time. A site is a target below 32 and a slot below 33, as a number target * 33 + slot.
 // The set is 33 numbers: for each target a row, with a binary digit for each slot in the set, and last a digit for each target whose row is not 0.
+#![tactic(auto)]
+
 ghost use Rattle.std.specs.Prelude.{ℕ, ◌+◌, ◌*◌, ◌<◌};
 ghost use Rattle.sites.specs.Sites.{Has, Sites, Inserted, Removed, Lowest};
 

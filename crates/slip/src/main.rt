@@ -1,4 +1,6 @@
 // Checks the slip of one file, the steps that lead from the circuit text of another to that of a third.
+#![tactic(auto)]
+
 ghost use Rattle.console.specs.Output.{Answers};
 ghost use Rattle.slip.specs.Output.{Prints};
 

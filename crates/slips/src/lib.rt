@@ -1,4 +1,6 @@
 // The job slip: do the steps that a customer sends lead from one circuit to the other.
+#![tactic(auto)]
+
 ghost use Rattle.std.specs.Prelude.{◌≤◌, length, take};
 ghost use Rattle.gates.specs.Code.{gates};
 ghost use Rattle.stepping.specs.Stepped.{Circuit};

@@ -1,4 +1,6 @@
 // A slip as a text: its lines are read and judged, and its steps kept as numbers.
+#![tactic(auto)]
+
 ghost use Rattle.std.specs.Prelude.{ℕ, ◌+◌, ◌≤◌, ◌<◌, length, drop};
 ghost use Rattle.text.specs.Reading.{cut};
 ghost use Rattle.sliptext.specs.SlipText.{more, place, placed, slip_form, slip_lines, slip_judged};

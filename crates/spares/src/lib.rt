@@ -1,4 +1,6 @@
 // The spare lines of an mct gate: the lines that it does not name and that nobody keeps.
+#![tactic(auto)]
+
 ghost use Rattle.std.specs.Prelude.{◌≡◌, ◌∷◌, ◌++◌, ◌≤◌, ◌<◌, length};
 ghost use Rattle.cascades.specs.Expansion.{mct_spares};
 ghost use Rattle.cascades.specs.LineSets.{unpacked};

@@ -5,6 +5,8 @@
 // `below` has, for each place, the one below it in its stack, in the same way. A removed gate keeps its target and control, with the power 0, and
 // is pulled when it is next found at the top. So each place is pulled at most once from each of its three stacks, and the search costs a constant
 // per gate, amortised.
+#![tactic(auto)]
+
 ghost use Rattle.std.specs.Prelude.{◌≤◌, ◌<◌, length, get_or};
 ghost use Rattle.stacks.specs.Stacks.{Falls, TopGate, Pulled, Stacked};
 ghost use Rattle.stacks.specs.Found.{Found};

@@ -1,5 +1,7 @@
 // The steps of a slip on a circuit, which is changed in place. A gate is its number; so is a step: its place times 2, plus 0 for a pass and 1 for
 // a merge.
+#![tactic(auto)]
+
 ghost use Rattle.std.specs.Prelude.{◌≡◌, ◌-◌, ◌≤◌, ◌<◌, length, take};
 ghost use Rattle.gates.specs.Circuit.{Passes};
 ghost use Rattle.gates.specs.Sites.{Same};

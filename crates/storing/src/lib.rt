@@ -1,4 +1,6 @@
 // A gate list as numbers: what a job hands over for it is written into it.
+#![tactic(auto)]
+
 ghost use Rattle.std.specs.Prelude.{◌≡◌, ◌≤◌, length};
 ghost use Rattle.records.specs.Records.{Fits};
 ghost use Rattle.storing.specs.Storing.{record_at, written, stored, Storable};

@@ -1,4 +1,6 @@
 // The two texts: their kinds, the refusals by name, the head of a text, and the words that reader and writer share.
+#![tactic(auto)]
+
 ghost use Rattle.std.specs.Prelude.{◌≡◌};
 ghost use Rattle.text.specs.Refusals.{number_of};
 

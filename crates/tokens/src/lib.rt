@@ -1,4 +1,6 @@
 // The tokens of a line, numbers and fixed bytes, read at a place of the text; the place after them is given.
+#![tactic(auto)]
+
 ghost use Rattle.std.specs.Prelude.{◌≤◌, length, drop};
 ghost use Rattle.text.specs.Reading.{num, strip};
 ghost use Rattle.tokens.specs.Seen.{delimited, number_tells, found_tells};

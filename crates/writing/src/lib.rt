@@ -1,4 +1,6 @@
 // The writer: a list of gate codes as a circuit text, and the two forms that the programs write beside it.
+#![tactic(auto)]
+
 ghost use Rattle.std.specs.Prelude.{◌≡◌, ◌∷◌, [], ◌++◌, ◌+◌, ◌≤◌, ◌<◌, length, take, drop};
 ghost use Rattle.gates.specs.Code.{gates, AllCodes};
 ghost use Rattle.text.specs.Text.{gate, word, render, Proper, circuit_text};
