@@ -90,7 +90,7 @@ module _ (P : ℕ → Type 0) where
   on_any_power p q c t h i (as_target e) = h i (as_target e)
   on_any_power p q c t h i (as_control e) = h i (as_control e)
 
-  touched_on : {c : List Gate} {i : ℕ} → Touched c i → Every (On P) c → P i
+  touched_on : {i : ℕ} {c : List Gate} → Touched c i → Every (On P) c → P i
   unfolding On
   touched_on {i = i} (here t) h = h.0 i t
   touched_on (there s) h = touched_on s h.1
