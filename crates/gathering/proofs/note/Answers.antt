@@ -1,8 +1,7 @@
 -- `gathering::note` meets its contract. Assumes nothing.
 use mathlib.Core.Path.{◌≡◌, sym, ◌∙◌}
-use mathlib.Core.Logic.{⊎_elim}
 use mathlib.Core.Bool.{true, cond, ◌&&◌, ◌||◌}
-use Prim.Native.Nat.{max}
+use Prim.Native.Nat.{max, ◌≤◌}
 use native.Mathlib.Omega.{arith}
 use lib.ListN.{length, set}
 use lib.Seq.{set_out}
@@ -11,6 +10,7 @@ use Rattle.gathering.specs.Gathering.{added, noted}
 use Rattle.gathering.proofs.Noting.{rises_not, rises_on, rises_first}
 use borrow.Author.Rules.{rules}
 use Rattle.gathering.proofs.note.Goals as goal
+use Rattle.gathering.proofs.note.Goals.{then-line-lt32, else-line-lt32, then-c, else-c, then-lines-ne0+then-line-a, then-lines-ne0+else-line-a, else-lines-ne0, then-largest-line, else-largest-line}
 
 pub returns : goal.returns
 unfolding noted
@@ -20,13 +20,18 @@ returns c =
     let x = c.args.c.line in
     let k : length a.marks ≡ 32 = search rules in
     let marks : c.if-line-lt32.marks ≡ set a.marks x true =
-    ⊎_elim (λ w. w.1) (λ w. w.1 ∙ sym (set_out a.marks x true (let o = w.0.left in omega arith))) c.if-line-lt32.branch in
+    elim c.if-line-lt32.branch [
+      | then-line-lt32 w ↦ w.marks-is
+      | else-line-lt32 w ↦ let o : 32 ≤ x = w.if-line-lt32.false in w.marks-is ∙ sym (set_out a.marks x true (omega arith))
+    ] in
     let negated : c.if-c.negated ≡ cond t.c.negated (added a.negated x) a.negated =
-    ⊎_elim (λ w. rw w.0.taken (w.2 ∙ w.1.ensures)) (λ w. rw w.0.left w.1) c.if-c.branch in
+    elim c.if-c.branch [ then-c w ↦ rw w.if-c.true (w.negated-is ∙ w.add-negated.ensures) | else-c w ↦ rw w.if-c.false w.negated-is ] in
     let rising : c.if-lines-ne0.rising ≡ a.rising && (eqb a.lines.count 0 || ltb a.last x) =
-    ⊎_elim (λ w. w.3 ∙ sym (rises_not a.rising a.lines.count a.last x w.0.taken (let o = w.2.taken in omega arith)))
-    (⊎_elim (λ w. w.3 ∙ sym (rises_on a.rising a.lines.count a.last x w.0.taken (let o = w.2.left in omega arith)))
-    (λ w. w.1 ∙ sym (rises_first a.rising a.lines.count a.last x w.0.left))) c.if-lines-ne0.branch in
+    elim c.if-lines-ne0.branch [
+      | then-lines-ne0+then-line-a w ↦ w.rising-is ∙ sym (rises_not a.rising a.lines.count a.last x w.if-lines-ne0.true w.if-line-a.true)
+      | then-lines-ne0+else-line-a w ↦ w.rising-is ∙ sym (rises_on a.rising a.lines.count a.last x w.if-lines-ne0.true w.if-line-a.false)
+      | else-lines-ne0 w ↦ w.rising-is ∙ sym (rises_first a.rising a.lines.count a.last x w.if-lines-ne0.false)
+    ] in
     let largest : c.if-largest-line.largest ≡ max a.largest x =
-    ⊎_elim (λ w. let o = w.0.taken in omega (arith, w.1)) (λ w. let o = w.0.left in omega (arith, w.1)) c.if-largest-line.branch in
+    elim c.if-largest-line.branch [ then-largest-line w ↦ omega arith | else-largest-line w ↦ omega arith ] in
     λ i. record { lines = c.add.ensures i; negated = negated i; rising = rising i; last = x; largest = largest i; marks = marks i }
