@@ -1,5 +1,4 @@
 -- `top_gate` goes down the stack: what is its top at the start is it at each turn, but for removed gates. Assumes nothing.
-use Prim.Native.Nat.{◌-◌}
 use Rattle.stacks.proofs.Stacking.{Walking}
 use Rattle.stacks.proofs.top_gate.Given as goal
 
