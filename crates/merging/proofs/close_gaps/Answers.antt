@@ -1,6 +1,5 @@
 -- `close_gaps` has closed the gaps of the first i when i is next. Assumes nothing.
-use mathlib.Core.Path.{◌≡◌, refl, ◌∙◌}
-use Prim.Native.Nat.{◌-◌}
+use mathlib.Core.Path.{◌≡◌, refl}
 use native.Mathlib.Omega.{arith}
 use Rattle.merging.proofs.Turning.{closed_start, closed_more}
 use Rattle.merging.proofs.close_gaps.Goals as goal

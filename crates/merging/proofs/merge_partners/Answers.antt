@@ -1,6 +1,5 @@
 -- `merge_partners` has given the first i gates their turns when i is next, with n places on the stacks; then it closes the gaps. Assumes nothing.
-use mathlib.Core.Path.{◌≡◌, refl, ◌∙◌}
-use Prim.Native.Nat.{◌-◌}
+use mathlib.Core.Path.{◌≡◌, refl}
 use native.Mathlib.Omega.{arith}
 use Rattle.merging.proofs.Turning.{stacked_empty, merging_start, merging_code, merging_more, merging_end}
 use Rattle.merging.proofs.merge_partners.Goals as goal

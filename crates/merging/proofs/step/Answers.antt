@@ -27,7 +27,7 @@ returns-in-At c =
     let p = c.requires in
     let f = c.find_partner in
     let x = outcome_merged a.list.now a.n a.g c.in-At.j (omega arith) (rw c.in-At.is at f.ensures.found) c.merge.new.list c.merge.ensures p.codes p.code
-        f.new.sites f.new.targets f.new.controls a.below_site.now a.below_target.now a.below_control.now f.ensures.stacked_2 in
+    f.new.sites f.new.targets f.new.controls a.below_site.now a.below_target.now a.below_control.now f.ensures.stacked_2 in
     record { stepped = x.0; stacked_2 = x.1 }
 
 pub returns-in-Nowhere : goal.returns-in-Nowhere
