@@ -53,16 +53,16 @@ meets_partner [] g i w = absurd (omega (arith, w.inside))
 meets_partner (a ∷ v) g zero w = here w.site w.free
 meets_partner (a ∷ v) g (suc i) w = later (meets_partner v g i (record { inside = omega (arith, w.inside); site = w.site; free = w.free }))
 
-pub partner_meets : {c : List Gate} {g a : Gate} {i : ℕ} → Partner g a c i → Meets c g i
+pub partner_meets : {g a : Gate} {c : List Gate} {i : ℕ} → Partner g a c i → Meets c g i
 partner_meets (here s f) = record { inside = omega arith; site = s; free = f }
 partner_meets (later p) = let w = partner_meets p in record { inside = omega (arith, w.inside); site = w.site; free = w.free }
 
 -- it is the gate at place i
-pub partner_at : {c : List Gate} {g a : Gate} {i : ℕ} → Partner g a c i → a ≡ get_or c i g
+pub partner_at : {g a : Gate} {c : List Gate} {i : ℕ} → Partner g a c i → a ≡ get_or c i g
 partner_at (here s f) = refl
 partner_at (later p) = partner_at p
 
-pub partner_same : {c : List Gate} {g a : Gate} {i : ℕ} → Partner g a c i → Same a g
+pub partner_same : {g a : Gate} {c : List Gate} {i : ℕ} → Partner g a c i → Same a g
 partner_same (here s f) = s
 partner_same (later p) = partner_same p
 
@@ -78,7 +78,7 @@ record Way (c : List Gate) (j k : ℕ) (a g : Gate) (i : ℕ) : Type 0 where
   right : List Placed
   moves : Moves (with_places j c ++ record { place = k; gate = g } ∷ []) (left ++ record { place = i; gate = a } ∷ record { place = k; gate = g } ∷ right)
 
-way : {c : List Gate} {g a : Gate} {i : ℕ} (j k m : ℕ) → m ≡ j + i → Partner g a c i → Way c j k a g m
+way : {g a : Gate} {c : List Gate} {i : ℕ} (j k m : ℕ) → m ≡ j + i → Partner g a c i → Way c j k a g m
 way {g = g} j k m e (here {v} s f) =
     let z : m ≡ j = omega arith in
     rw z (record { left = []; right = with_places (suc j) v; moves = moves_cons _ (slide (record { place = k; gate = g }) (suc j) f) })

@@ -34,14 +34,14 @@ module _ (n : ℕ) where
   partner_linked {g} {a} h k (here {v} s f) = rw (push_meets f s) at (reaches_linked (push_reach n (a ∷ v) h k))
   partner_linked h k (later {b} p) = linked_before (b ∷ []) (h.0, tt) (partner_linked h.1 k p)
 
-  pub leaves_linked : {c d : List Gate} {g : Gate} → AllValid n c → Valid n g → Leaves c g d → Linked n (c ++ g ∷ []) d
+  pub leaves_linked : {c : List Gate} {g : Gate} {d : List Gate} → AllValid n c → Valid n g → Leaves c g d → Linked n (c ++ g ∷ []) d
   leaves_linked h k (partnered b) = rw (merges_merged b.merges) at (partner_linked h k (brought_partner b))
   leaves_linked h k (alone none) = done
 
   -- ---- shortest
 
   -- what the step leaves has as many gates as the push on the reduced list
-  leaves_length : {c d : List Gate} {g : Gate} → Shortest n c → Valid n g → Leaves c g d → length d ≡ length (push (nf c) g)
+  leaves_length : {c : List Gate} {g : Gate} {d : List Gate} → Shortest n c → Valid n g → Leaves c g d → length d ≡ length (push (nf c) g)
   leaves_length {c} {g = g} w k (partnered {i} b) =
       let p = brought_partner b in
       let r = shortest_passing w in
@@ -69,7 +69,7 @@ module _ (n : ℕ) where
       let x : b.merge ≡ e.merge = sym (merges_merged b.merges) ∙ ap (λ a. merged a g) y ∙ merges_merged e.merges in
       rw (z, x)
 
-  pub leaves_unique : {c d e : List Gate} {g : Gate} → Shortest n c → Leaves c g d → Leaves c g e → d ≡ e
+  pub leaves_unique : {c : List Gate} {g : Gate} {d e : List Gate} → Shortest n c → Leaves c g d → Leaves c g e → d ≡ e
   leaves_unique w (partnered b) (partnered e) = same_outcome w b e
   leaves_unique w (partnered {i} b) (alone none) = absurd (none i b)
   leaves_unique w (alone none) (partnered {i} b) = absurd (none i b)

@@ -5,10 +5,10 @@ use Prim.Native.Nat.{ℕ, suc, ◌+◌, ◌-◌, ◌/◌, ◌%◌, ◌≤◌, �
 use native.Mathlib.Omega.{arith}
 use lib.ListN.{length, get_or}
 use Rattle.stacks.specs.declared.Partner.TheVariants.{At, Nowhere}
-use Rattle.stacks.specs.Stacks.{Top, Falls, Pulled, Stacks, by_site, by_target, by_control, Stacked}
+use Rattle.stacks.specs.Stacks.{Top, Pulled, Stacks, by_site, by_target, by_control, Stacked}
 use Rattle.stacks.specs.Found.{Found}
 use Rattle.stacks.proofs.Meeting.{Meets, meets_at, meets_nowhere}
-use Rattle.stacks.proofs.Stacking.{stacks_fall, top_pulled, stacks_pulled}
+use Rattle.stacks.proofs.Stacking.{top_pulled, stacks_pulled}
 
 module _ (l : List ℕ) (n g : ℕ) where
   -- no gate of its site
@@ -43,16 +43,7 @@ module _ (l : List ℕ) (n g : ℕ) where
           };
     }
 
--- ---- what the code asks and answers
-
--- what a search from the top of stack k needs
-abbrev pub Asks : List ℕ → List ℕ → List ℕ → ℕ → Type 0
-Asks l tops below k = (k < length tops) × (((get_or tops k 0 ≤ length l) × (get_or tops k 0 ≤ length below)) × Falls below (get_or tops k 0))
-
-pub asks : (K : ℕ → ℕ) (size : ℕ) (l : List ℕ) (n : ℕ) (tops below : List ℕ) → Stacks K size l n tops below → n ≤ length l → n ≤ 4096 → (k : ℕ) → k < size → Asks l tops below k
-asks K size l n tops below c h few k b =
-    let i = (c.top k).inside in
-    (omega (arith, c.keys), ((omega arith, omega (arith, c.room)), stacks_fall K size l n tops below c k))
+-- ---- what the code answers
 
 module _ (l : List ℕ) (n g : ℕ) (h : n ≤ length l) (few : n ≤ 4096) (code : g < 4224) (ss ts cs bs bt bc : List ℕ) (w : Stacked l n ss ts cs bs bt bc) where
   module _ (s : ℕ) (ss' : List ℕ) (ws : Pulled l bs (g / 4) ss s ss') where

@@ -7,7 +7,7 @@ use native.Mathlib.Omega.{arith}
 use lib.ListN.{length, take, get_or}
 use Rattle.gates.specs.declared.Gate.{Gate}
 use Rattle.gates.specs.Code.{gate, gates}
-use Rattle.gates.specs.Sites.{Free, free_nil, free_cons}
+use Rattle.gates.specs.Sites.{Same, Free, free_nil, free_cons}
 use Rattle.gates.proofs.Pushing.{free_head, free_tail}
 use Rattle.partners.specs.Partner.{NoPartner}
 use Rattle.partners.proofs.Partners.{Partner, here, later, partner_brought, brought_partner}
@@ -65,8 +65,8 @@ module _ (g : ℕ) where
       go ih (removed a e) = rw (remaining_removed x (take n l) e, remaining_removed x (take j l) e) ih
       go ih (there a e) = rw (remaining_there x (take n l) e, remaining_there x (take j l) e) (later ih)
 
-  partner_split : {a b : Gate} {c : List Gate} {i : ℕ} {P : Type 0} → Partner (gate g) a (b ∷ c) i → (Partner (gate g) b (b ∷ c) 0 → P) → ((k : ℕ) → Partner (gate g) a c k → P) → P
-  partner_split (here s f) p q = p (here s f)
+  partner_split : {a b : Gate} {c : List Gate} {i : ℕ} {P : Type 0} → Partner (gate g) a (b ∷ c) i → (Same b (gate g) → Free (gate g) c → P) → ((k : ℕ) → Partner (gate g) a c k → P) → P
+  partner_split (here s f) p q = p s f
   partner_split (later {i} w) p q = q i w
 
   -- and back
@@ -81,8 +81,8 @@ module _ (g : ℕ) where
       up : (j : ℕ) × Meets l n g j → (j : ℕ) × Meets (x ∷ l) (suc n) g j
       up w = (suc w.0, meets_cons w.1)
 
-      first : 1 ≤ x % 4 → Partner (gate g) (gate x) (gate x ∷ gates (remaining (take n l))) 0 → (j : ℕ) × Meets (x ∷ l) (suc n) g j
-      first b (here s f) = (0, record { inside = omega arith; there = b; site = same_site x g s; free = λ k. free f k })
+      first : 1 ≤ x % 4 → Same (gate x) (gate g) → Free (gate g) (gates (remaining (take n l))) → (j : ℕ) × Meets (x ∷ l) (suc n) g j
+      first b s f = (0, record { inside = omega arith; there = b; site = same_site x g s; free = λ k. free f k })
         where
           free : Free (gate g) (gates (remaining (take n l))) → (k : ℕ) → 0 < k → k < suc n → 1 ≤ get_or (x ∷ l) k 0 % 4 → Clear (g / 4) (get_or (x ∷ l) k 0 / 4)
           free f zero c d = absurd (omega arith)
@@ -90,7 +90,7 @@ module _ (g : ℕ) where
 
       go : ((k : ℕ) → Partner (gate g) a (gates (remaining (take n l))) k → (j : ℕ) × Meets l n g j) → Place x → (j : ℕ) × Meets (x ∷ l) (suc n) g j
       go ih (removed b e) = up (ih i (rw (remaining_removed x (take n l) e) at p))
-      go ih (there b e) = partner_split (rw (remaining_there x (take n l) e) at p) (λ w. first b w) (λ k w. up (ih k w))
+      go ih (there b e) = partner_split (rw (remaining_there x (take n l) e) at p) (λ s f. first b s f) (λ k w. up (ih k w))
 
   -- in terms of passes
   pub meets_at : (l : List ℕ) (n j : ℕ) → n ≤ length l → Meets l n g j → PartnerAt l n g j
