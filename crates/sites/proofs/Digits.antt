@@ -4,13 +4,11 @@ use mathlib.Core.Logic.{◌≢◌}
 use Prim.Native.Nat.{ℕ, zero, suc, ◌+◌, ◌*◌, ◌/◌, ◌%◌, ◌^◌, ◌≤◌, ◌<◌, max}
 use native.Mathlib.Nat.{pow-suc, one-mul, max-zero}
 use native.Mathlib.Omega.{arith}
-use mir.Syntax.{w64}
-use mir.Val.{Fits}
 use lib.Dec.{lit<}
 use lib.Arith.{digits_div, digits_mod}
 use lib.Pow.{pow-lt, shl_exact}
 use lib.Bits.{bit_or, bit_xor, differ, or_step, xor_step, or_lt, xor_lt}
-use lib.Count.{under, count_trailing_zeros, trailing_le}
+use lib.Count.{under, count_trailing_zeros}
 use Rattle.sites.specs.Sites.{digit}
 
 -- ---- digits
@@ -110,13 +108,6 @@ pub xor_below : (i k m : ℕ) → i < k → k ≤ 64 → m < 2 ^ k → bit_xor m
 xor_below i k m h l b = xor_lt k m (bit i) b (bit_lt i k h l)
 
 -- ---- the lowest digit that is 1
-
--- its place, as a number and as an index into numbers of 8 bytes
-pub zeros_fit : (m : ℕ) → Fits w64 (count_trailing_zeros 64 m)
-zeros_fit m = omega (arith, trailing_le 64 m)
-
-pub zeros_times : (m : ℕ) → Fits w64 (count_trailing_zeros 64 m * 8)
-zeros_times m = omega (arith, trailing_le 64 m)
 
 pub lowest_one : (k m : ℕ) → 0 < m → m < 2 ^ k → digit (count_trailing_zeros k m) m ≡ 1
 unfolding digit count_trailing_zeros
