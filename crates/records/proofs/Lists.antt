@@ -6,18 +6,18 @@ use mathlib.Core.List.{List, [], ◌∷◌, ◌++◌}
 use borrow.Author.Tests.{le-ltb, lt-ltb}
 use Prim.Native.Nat.compare
 use Prim.Native.Nat.{ℕ, zero, suc, ◌+◌, ◌-◌, ◌<◌, ◌≤◌, zero-le}
-use native.Mathlib.Nat.{zero-add, not-suc-le-zero, le_of_suc-le-suc, le_of_eq}
+use native.Mathlib.Nat.{zero-add, not-suc-le-zero, le_of_suc-le-suc}
 use native.Mathlib.Numerals.{add-one}
 use native.Mathlib.Omega.{arith}
 use lib.Dec.{is_le}
 use lib.ListN.{length, get_or, set, take, drop, replicate, length-append, length-replicate}
-use lib.Seq.{length-take-le, take_all, paste-suc, length-paste}
+use lib.Seq.{length-take-le, paste-suc}
 use Rattle.gates.specs.declared.Gate.{Gate}
 use Rattle.gates.specs.declared.Gate.TheVariants.{Not}
 use Rattle.gates.specs.Code.{gate, gates}
 use Rattle.gates.proofs.Codes.{below}
 use Rattle.gates.proofs.CodeLists.{length_gates, code_in_front}
-use Rattle.records.specs.Records.{record_at, front, written, Coded}
+use Rattle.records.specs.Records.{record_at, front, Coded}
 
 -- ---- a list written over from the front
 
@@ -29,9 +29,6 @@ module _ {A : Type 0} where
   -- one more
   pub pasted_more : (s l : List A) (i : ℕ) (a : A) → i < length s → i < length l → set (pasted s l i) i (get_or s i a) ≡ pasted s l (i + 1)
   pasted_more s l i a h k = rw (add-one i) (rw (zero-add i, zero-add (suc i)) at (paste-suc l 0 s i a (rw (zero-add i) k) h))
-
-  pub length_pasted : (s l : List A) (i : ℕ) → i ≤ length s → i ≤ length l → length (pasted s l i) ≡ length l
-  length_pasted s l i h k = rw (zero-add i) at (length-paste l 0 s i (rw (zero-add i) k) h)
 
 -- ---- what `store` writes
 
@@ -54,9 +51,6 @@ pub length_front : (codes : List ℕ) (count limit : ℕ) → count ≤ limit �
 length_front codes count limit h k =
     length-append (gates (take count codes)) (replicate (limit - count) (Not 0))
     ∙ omega (arith, h, length_gates (take count codes), length-take-le count codes k, length-replicate (limit - count) (Not 0))
-
-pub pasted_all : (codes : List ℕ) (count limit : ℕ) (l : List Gate) → count ≤ limit → count ≤ length codes → pasted (front codes count limit) l limit ≡ written codes count limit l
-pasted_all codes count limit l h k = ap (λ (s : List Gate). s ++ drop limit l) (take_all limit (front codes count limit) (le_of_eq (length_front codes count limit h k)))
 
 -- ---- the codes
 

@@ -1,5 +1,5 @@
 // The gate records that a job is lent: what a job's covered part hands over, and how it is written into them. `store` alone
-// writes into them; it and `fill` are proved by hand.
+// writes into them.
 #![tactic(auto)]
 
 ghost use Rattle.std.specs.Prelude.{◌≡◌, length};

@@ -1,0 +1,11 @@
+-- `store` has written the first i records, and goes up to the limit.
+use Rattle.std.proofs.Common.{◌-◌, ◌≡◌, ◌≤◌}
+use Rattle.records.specs.Records.{front}
+use Rattle.records.proofs.Lists.{pasted}
+use Rattle.records.proofs.store.Given as goal
+
+abbrev pub invariant-loop-i : goal.invariant-loop-i
+invariant-loop-i l = (l.i ≤ l.limit) × (l.list ≡ pasted (front l.codes l.count l.limit) l.initial.list l.i)
+
+abbrev pub decreases-loop-i : goal.decreases-loop-i
+decreases-loop-i l = l.limit - l.i
