@@ -17,7 +17,7 @@ slice-aggregate-put-three c = search rules
 put-three-requires : tie.Need-put-three-requires
 put-three-requires c κs =
     let a = c.before.before.before.args in
-    omega (arith, length_three (bytes "(turned_away ") a.number a.line a.text, length_two [] a.line a.text, few_digits 2 a.number (omega arith), few_digits 19 a.line (omega arith), few_digits 2 a.text (omega arith))
+    omega (arith, length_three (bytes "(turned-away ") a.number a.line a.text, length_two [] a.line a.text, few_digits 2 a.number (omega arith), few_digits 19 a.line (omega arith), few_digits 2 a.text (omega arith))
 
 same_length : tie.Need-same-length
 same_length c = search rules

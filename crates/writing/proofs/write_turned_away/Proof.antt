@@ -14,7 +14,7 @@ slice-aggregate-put-two c = search rules
 put-two-requires : tie.Need-put-two-requires
 put-two-requires c κs =
     let a = c.before.before.before.args in
-    omega (arith, length_two (bytes "(turned_away ") a.number a.line, few_digits 19 a.number (omega arith), few_digits 19 a.line (omega arith))
+    omega (arith, length_two (bytes "(turned-away ") a.number a.line, few_digits 19 a.number (omega arith), few_digits 19 a.line (omega arith))
 
 same_length : tie.Need-same-length
 same_length c = search rules
