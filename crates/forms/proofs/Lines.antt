@@ -13,6 +13,6 @@ pub length_three : (w : List ℕ) (k m n : ℕ) → length (three_numbers w k m 
 unfolding three_numbers two_numbers
 length_three w k m n = simp length-append (omega arith)
 
-example : text_turned_away 9 4098 2 ≡ bytes "(turned_away 9 4098 2)\n"
+example : text_turned_away 9 4098 2 ≡ bytes "(turned-away 9 4098 2)\n"
 unfolding three_numbers decimal last_digits
 example = refl

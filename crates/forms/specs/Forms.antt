@@ -1,4 +1,4 @@
--- The refusal of a job over several texts, as the programs write it: `(turned_away r l t)`. Assumes nothing.
+-- The refusal of a job over several texts, as the programs write it: `(turned-away r l t)`. Assumes nothing.
 use Rattle.std.specs.Prelude.{List, ◌++◌, ℕ}
 use Rattle.text.specs.Text.{bytes}
 use Rattle.writing.specs.Decimal.{decimal}
@@ -9,4 +9,4 @@ three_numbers w k m n = w ++ ((decimal k ++ bytes " ") ++ ((decimal m ++ bytes "
 
 -- refusal number r, line l and text number t
 abbrev pub text_turned_away : ℕ → ℕ → ℕ → List ℕ
-text_turned_away r l t = three_numbers (bytes "(turned_away ") r l t
+text_turned_away r l t = three_numbers (bytes "(turned-away ") r l t

@@ -15,7 +15,7 @@ fn put_three(out: &mut [u8], at: usize, opening: &[u8], k: usize, m: usize, n: u
     writing::put_two(out, second, b"", m, n)
 }
 
-// Writes the form `(turned_away r l t)` at the front, and gives its length.
+// Writes the form `(turned-away r l t)` at the front, and gives its length.
 pub fn write_turned_away(number: u8, line: usize, text: u8, out: &mut [u8]) -> usize
     requires { 64 ≤ length out.old }
     ensures value { result ≡ length (text_turned_away number line text) }

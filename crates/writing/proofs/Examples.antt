@@ -9,11 +9,11 @@ mapped : circuit_text 3 (gates (269 ∷ 273 ∷ 138 ∷ 275 ∷ 138 ∷ [])) ≡
 unfolding circuit_text rendered render word two one digits gate assembled
 mapped = refl
 
-no_spare : turned_away 8 2 ≡ bytes "(turned_away 8 2)\n"
+no_spare : turned_away 8 2 ≡ bytes "(turned-away 8 2)\n"
 unfolding two_numbers decimal last_digits
 no_spare = refl
 
-last_line : turned_away 10 60001 ≡ bytes "(turned_away 10 60001)\n"
+last_line : turned_away 10 60001 ≡ bytes "(turned-away 10 60001)\n"
 unfolding two_numbers decimal last_digits
 last_line = refl
 

@@ -1,4 +1,4 @@
--- Numbers in decimal, and the two forms that the programs write beside circuit texts: `(turned_away r l)` and `(quote c)`. Assumes nothing.
+-- Numbers in decimal, and the two forms that the programs write beside circuit texts: `(turned-away r l)` and `(quote c)`. Assumes nothing.
 use Rattle.std.specs.Prelude.{cond, List, [], ◌∷◌, ◌++◌, ℕ, zero, suc, ◌+◌, ◌/◌, ◌%◌, ltb}
 use Rattle.text.specs.Text.{bytes}
 
@@ -18,9 +18,9 @@ one_number w n = w ++ (decimal n ++ bytes ")\n")
 unfoldable pub two_numbers : List ℕ → ℕ → ℕ → List ℕ
 two_numbers w m n = w ++ ((decimal m ++ bytes " ") ++ (decimal n ++ bytes ")\n"))
 
--- `(turned_away r l)` with refusal number r and line l
+-- `(turned-away r l)` with refusal number r and line l
 abbrev pub turned_away : ℕ → ℕ → List ℕ
-turned_away r l = two_numbers (bytes "(turned_away ") r l
+turned_away r l = two_numbers (bytes "(turned-away ") r l
 
 -- `(quote c)` with the gate count c
 abbrev pub quote : ℕ → List ℕ

@@ -189,7 +189,7 @@ pub fn measure(head: Head, list: &[u16], m: usize) -> usize
     text::LINES.len() + number_length(head.lines) + 2 + gates_length(list, m)
 }
 
-// Writes the form `(turned_away r l)` at the front, and gives its length.
+// Writes the form `(turned-away r l)` at the front, and gives its length.
 pub fn write_turned_away(number: u8, line: usize, out: &mut [u8]) -> usize
     requires { 64 ≤ length out.old }
     ensures value { result ≡ length (turned_away number line) }
