@@ -2,7 +2,7 @@
 #![tactic(auto)]
 
 // A control: its line, and its sign; a negated one is met when its line is 0.
-#[derive(Drop)]
+#[derive(Clone, Copy)]
 pub struct Control {
     pub line: u8,
     pub negated: bool,

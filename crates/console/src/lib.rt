@@ -16,7 +16,7 @@ pub const TEXT_BYTES: usize = 60000;
 pub const ANSWER_BYTES: usize = 11 + 11 * 4096;
 
 // The programs: map and quote stand over one job.
-#[derive(Drop)]
+#[derive(Clone, Copy)]
 pub enum Program {
     Map,
     Reduce,

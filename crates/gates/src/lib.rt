@@ -6,7 +6,7 @@ ghost use Rattle.gates.specs.Code.{Code, code, gate};
 ghost use Rattle.gates.specs.Inverse.{inverted as inverted_gate};
 
 // A NOT on a target; or a power, a control and a target.
-#[derive(Drop)]
+#[derive(Clone, Copy)]
 pub enum Gate {
     Not(u8),
     Powered(u8, u8, u8),

@@ -7,7 +7,7 @@ ghost use Rattle.gathering.specs.Gathering.{added, no_lines, noted, no_controls}
 use cascades::Control;
 
 // Lines in order: how many there are, and the first sixteen of them.
-#[derive(Drop)]
+#[derive(Clone, Copy)]
 pub struct LineList {
     pub count: usize,
     pub first: [u8; 16],
@@ -15,7 +15,7 @@ pub struct LineList {
 
 // What is kept of the controls of an mct line: a mark for each line that is a control, their lines in order and those of the negated ones,
 // whether each is above the one before it, the last and the largest of them.
-#[derive(Drop)]
+#[derive(Clone, Copy)]
 pub struct Controls {
     pub marks: [bool; 32],
     pub lines: LineList,

@@ -15,7 +15,7 @@ use text::{Head, Kind, Refusal};
 const GATES: usize = 4096;
 
 // What was judged: a head, and how many gates the join has; or a refusal, with its text number and its line.
-#[derive(Drop)]
+#[derive(Clone, Copy)]
 pub enum Joined {
     Accepted(Head, usize),
     Refused(Refusal, u8, usize),

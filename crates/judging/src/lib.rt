@@ -24,7 +24,7 @@ fn line_number(head: Head, before: usize) -> usize
 }
 
 // The line answer of a circuit: its gate and the place after it, or a refusal and its line.
-#[derive(Drop)]
+#[derive(Clone, Copy)]
 pub enum GateLine {
     Gate(Gate, usize),
     Refused(Refusal, usize),
@@ -47,14 +47,14 @@ pub fn gate_line(s: &[u8], at: usize, head: Head, before: usize) -> GateLine
 }
 
 // The line answer of a cascade: its target and the place after it, or a refusal and its line.
-#[derive(Drop)]
+#[derive(Clone, Copy)]
 pub enum TargetLine {
     Target(u8, usize),
     Refused(Refusal, usize),
 }
 
 // The same beside what was gathered of the controls.
-#[derive(Drop)]
+#[derive(Clone, Copy)]
 pub struct MctLine {
     pub target: TargetLine,
     pub controls: Controls,
@@ -101,7 +101,7 @@ fn in_range(head: Head) -> bool
 }
 
 // Line 1 of a text: its head and the place after it, or a refusal and its line.
-#[derive(Drop)]
+#[derive(Clone, Copy)]
 pub enum HeadLine {
     Head(Head, usize),
     Refused(Refusal, usize),
@@ -123,7 +123,7 @@ pub fn head_line(s: &[u8], at: usize) -> HeadLine
 
 // What stands at the place after line 1 of a cascade: a keep line, with the head that it makes and the place after it; a refusal and its line; or
 // no keep line.
-#[derive(Drop)]
+#[derive(Clone, Copy)]
 pub enum KeepLine {
     Kept(Head, usize),
     Refused(Refusal, usize),

@@ -17,7 +17,7 @@ use reader::Reader;
 use text::{Head, Kind, Refusal};
 
 // What a text is judged to be: accepted, with its head and the number of codes of its circuit; or refused, with the line.
-#[derive(Drop)]
+#[derive(Clone, Copy)]
 pub enum Loaded {
     Accepted(Head, usize),
     Refused(Refusal, usize),
@@ -25,7 +25,7 @@ pub enum Loaded {
 
 // Where the loading of a text stands between two lines: the place after the line that was read last, how many gate lines were taken, and what
 // the text is so far. A refused text is read no further: its place is the text's end.
-#[derive(Drop)]
+#[derive(Clone, Copy)]
 pub struct Progress {
     pub place: usize,
     pub lines: usize,

@@ -14,14 +14,14 @@ use gathering::Controls;
 use tokens::{Found, Number};
 
 // Two numbers and the place after them.
-#[derive(Drop)]
+#[derive(Clone, Copy)]
 pub enum Pair {
     Are(u8, u8, usize),
     Missing,
 }
 
 // A control and the place after the space or the bracket that follows it: more controls come after a space.
-#[derive(Drop)]
+#[derive(Clone, Copy)]
 pub enum ControlForm {
     More(Control, usize),
     Last(Control, usize),
@@ -29,34 +29,34 @@ pub enum ControlForm {
 }
 
 // The place after the controls, beside what is kept of them.
-#[derive(Drop)]
+#[derive(Clone, Copy)]
 pub struct Bracketed {
     pub end: Found,
     pub controls: Controls,
 }
 
 // A line of a circuit and the place after it.
-#[derive(Drop)]
+#[derive(Clone, Copy)]
 pub enum GateForm {
     Is(Gate, usize),
     Malformed,
 }
 
 // A line of a cascade: its target and the place after it, beside what is kept of its controls.
-#[derive(Drop)]
+#[derive(Clone, Copy)]
 pub enum TargetForm {
     Is(u8, usize),
     Malformed,
 }
 
-#[derive(Drop)]
+#[derive(Clone, Copy)]
 pub struct MctForm {
     pub target: TargetForm,
     pub controls: Controls,
 }
 
 // Line 1 of a text and the place after it.
-#[derive(Drop)]
+#[derive(Clone, Copy)]
 pub enum HeadForm {
     Is(text::Head, usize),
     Malformed,

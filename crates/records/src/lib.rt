@@ -6,7 +6,7 @@ ghost use Rattle.std.specs.Prelude.{◌≡◌, length};
 ghost use Rattle.records.specs.Records.{record_at, written, filled_by, Coded, Writable, Fits};
 
 // The number and the line that a job over one text returns, the gates of its reduced list, and the bytes that it wrote.
-#[derive(Drop)]
+#[derive(Clone, Copy)]
 pub struct Outcome {
     pub number: u8,
     pub line: usize,
@@ -15,7 +15,7 @@ pub struct Outcome {
 }
 
 // Those of a job over several texts, and the number of the text whose rule or line refuses.
-#[derive(Drop)]
+#[derive(Clone, Copy)]
 pub struct TextOutcome {
     pub number: u8,
     pub line: usize,
@@ -24,7 +24,7 @@ pub struct TextOutcome {
 }
 
 // What is written into a gate list: the codes of the gates for its front, how many codes these are, and how many records are written.
-#[derive(Drop)]
+#[derive(Clone, Copy)]
 pub struct Filling {
     pub codes: [u16; 4096],
     pub gates: usize,
@@ -32,21 +32,21 @@ pub struct Filling {
 }
 
 // What the covered part of a job over one text and one gate list hands over.
-#[derive(Drop)]
+#[derive(Clone, Copy)]
 pub struct Done {
     pub filling: Filling,
     pub outcome: Outcome,
 }
 
 // What that of a job over several texts and one gate list hands over.
-#[derive(Drop)]
+#[derive(Clone, Copy)]
 pub struct DoneText {
     pub filling: Filling,
     pub outcome: TextOutcome,
 }
 
 // What that of a job over several texts and two gate lists hands over.
-#[derive(Drop)]
+#[derive(Clone, Copy)]
 pub struct DoneTwo {
     pub first: Filling,
     pub second: Filling,

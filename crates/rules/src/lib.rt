@@ -10,7 +10,7 @@ use gathering::Controls;
 use text::{Head, Refusal};
 
 // What the rules say of a line in form.
-#[derive(Drop)]
+#[derive(Clone, Copy)]
 pub enum Verdict {
     Keeps,
     Breaks(Refusal),

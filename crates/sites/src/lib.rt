@@ -6,7 +6,7 @@ ghost use Rattle.std.specs.Prelude.{ℕ, ◌+◌, ◌*◌, ◌<◌};
 ghost use Rattle.sites.specs.Sites.{Has, Sites, Inserted, Removed, Lowest};
 
 // A site.
-#[derive(Drop)]
+#[derive(Clone, Copy)]
 pub struct Site {
     pub target: usize,
     pub slot: usize,

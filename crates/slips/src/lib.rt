@@ -20,7 +20,7 @@ use text::{Head, Kind, Refusal};
 const GATES: usize = 4096;
 
 // What was judged: the head and the number of gates of both circuits; or a refusal, with its text number and its line.
-#[derive(Drop)]
+#[derive(Clone, Copy)]
 pub enum Checked {
     Accepted(Head, usize),
     Refused(Refusal, u8, usize),

@@ -11,21 +11,21 @@ use text::Refusal;
 use tokens::Found;
 
 // The place that a step names, and the place of the text after it.
-#[derive(Drop)]
+#[derive(Clone, Copy)]
 pub enum Place {
     Is(u16, usize),
     Missing,
 }
 
 // The number of the step that a line names, and the place of the text after it.
-#[derive(Drop)]
+#[derive(Clone, Copy)]
 pub enum StepForm {
     Is(u16, usize),
     Malformed,
 }
 
 // A slip that was loaded: how many steps it has; or a refusal, with its line.
-#[derive(Drop)]
+#[derive(Clone, Copy)]
 pub enum LoadedSlip {
     Accepted(usize),
     Refused(Refusal, usize),

@@ -12,7 +12,7 @@ ghost use Rattle.stacks.specs.Stacks.{Falls, TopGate, Pulled, Stacked};
 ghost use Rattle.stacks.specs.Found.{Found};
 
 // Where the partner of a gate stands: at a place, or nowhere.
-#[derive(Drop)]
+#[derive(Clone, Copy)]
 pub enum Partner {
     At(usize),
     Nowhere,

@@ -11,7 +11,7 @@ ghost use Rattle.stepping.specs.Slip.{passing, merging, at_place, effect, run as
 ghost use Rattle.stepping.specs.Stepped.{slip_step, slip_steps, without, Circuit, StepsTo, RunsTo};
 
 // What a step, or a slip, makes of a circuit: the number of gates of the circuit that is left; or a refusal, with the line of the slip.
-#[derive(Drop)]
+#[derive(Clone, Copy)]
 pub enum Stepped {
     Next(usize),
     Refused(usize),

@@ -5,7 +5,7 @@ ghost use Rattle.std.specs.Prelude.{◌≡◌};
 ghost use Rattle.text.specs.Refusals.{number_of};
 
 // The refusals: document 01's ten, then those that document 02's orders add.
-#[derive(Drop)]
+#[derive(Clone, Copy)]
 pub enum Refusal {
     Overlong,
     ShortList,
@@ -23,7 +23,7 @@ pub enum Refusal {
 }
 
 // The two texts: a cascade of mct gates, and a circuit.
-#[derive(Drop)]
+#[derive(Clone, Copy)]
 pub enum Kind {
     Cascade,
     Circuit,
@@ -31,7 +31,7 @@ pub enum Kind {
 
 // What the head of a text says: how many lines there are, and which of them nobody may borrow. Line a is kept if bit a of `kept` is 1, so `kept` is
 // 0 exactly if the text has no keep line.
-#[derive(Drop)]
+#[derive(Clone, Copy)]
 pub struct Head {
     pub lines: u8,
     pub kept: u32,

@@ -6,14 +6,14 @@ ghost use Rattle.text.specs.Reading.{num, strip};
 ghost use Rattle.tokens.specs.Seen.{delimited, number_tells, found_tells};
 
 // A number and the place after it.
-#[derive(Drop)]
+#[derive(Clone, Copy)]
 pub enum Number {
     Is(u8, usize),
     Missing,
 }
 
 // The place after fixed bytes.
-#[derive(Drop)]
+#[derive(Clone, Copy)]
 pub enum Found {
     At(usize),
     Missing,
