@@ -1,3 +1,2 @@
 -- The laws of this crate, in reading order.
-pub mod Counted
-pub mod Buffer
+pub mod Read

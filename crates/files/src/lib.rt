@@ -1,8 +1,15 @@
 // How a program reads its texts, from the files that its arguments name or from standard input, and writes.
 #![tactic(auto)]
 
-ghost use Rattle.std.specs.Prelude.{◌≤◌, length};
+ghost use Rattle.std.specs.Prelude.{◌≡◌, ◌<◌, ◌≤◌, length, take, slice_range, IfOk};
+ghost use Rattle.std.specs.Io.KnownBytes.{Consumes, IsAtEnd};
 ghost use Rattle.files.specs.Input.{Within, WithinTwo, WithinThree};
+
+use std::env::FillError;
+use std::fmt::InlineText;
+use std::io::Read;
+use std::rt::{Env, Files};
+use std::{fs, io, str};
 
 // How many bytes the name of a file may have.
 const NAME_BYTES: usize = 4095;
@@ -15,96 +22,131 @@ pub enum Input {
     Misused,
 }
 
-// One read, behind the n bytes that the buffer holds. The programs set no handler for signals, so nothing interrupts it.
-fn read_more(fd: i32, buffer: &mut [u8], n: usize) -> Input
+// One read, behind the n bytes that the buffer holds, and how many it then holds. The programs set no handler for signals, so nothing interrupts it.
+fn read_more<F: Read>(file: &mut F, buffer: &mut [u8], n: usize) -> io::Result<usize>
     requires { n ≤ length buffer.old }
-    ensures { Within n (length buffer.old) result }
+    ensures within { IfOk result (λ m. (n ≤ m) × (m ≤ length buffer.old)) }
+    ensures kept { take n buffer.new ≡ take n buffer.old }
+    ensures bytes { IfOk result (λ m. Consumes (F.remaining file.old) (F.remaining file.new) (slice_range buffer.new n m)) }
+    ensures end { IfOk result (λ m. m ≡ n → n < length buffer.old → IsAtEnd (F.remaining file.new)) }
 {
-    let got = libc::read(fd, &mut buffer[n..]);
-    if got < 0 {
-        return Input::Unreadable;
-    }
-    Input::Bytes(n + got as usize)
+    let got = file.read(&mut buffer[n..])?;
+    Ok(n + got)
 }
 
 // Reads until the buffer is full or the input ends. Each turn that goes on takes a byte at least.
-fn read_input(fd: i32, buffer: &mut [u8]) -> Input
-    ensures { Within 0 (length buffer.new) result }
+fn read_input<F: Read>(file: &mut F, buffer: &mut [u8]) -> io::Result<usize>
+    ensures within { IfOk result (λ n. n ≤ length buffer.new) }
+    ensures bytes { IfOk result (λ n. Consumes (F.remaining file.old) (F.remaining file.new) (take n buffer.new)) }
+    ensures end { IfOk result (λ n. n < length buffer.new → IsAtEnd (F.remaining file.new)) }
 {
     let size = buffer.len();
     let mut n = 0;
     while n < size {
-        let Input::Bytes(m) = read_more(fd, buffer, n) else {
-            return Input::Unreadable;
-        };
+        let m = read_more(file, buffer, n)?;
         if m == n {
-            return Input::Bytes(n);
+            return Ok(n);
         }
         n = m;
     }
-    Input::Bytes(n)
+    Ok(n)
 }
 
-// Writes a line to standard error.
-pub fn tell(line: &[u8]) {
-    io::write_all(libc::STDERR_FILENO, line);
+// Writes a line to standard error. One that is not text in UTF-8 is written with escapes.
+pub fn tell(rt: &impl Eprint, line: &[u8]) {
+    let _ = match str::from_utf8(line) {
+        Ok(text) => rt.eprint(text),
+        Err(_) => rt.eprint(line.escape_ascii()),
+    };
 }
 
 // Reads standard input, or says that it cannot.
-fn read_standard(buffer: &mut [u8]) -> Input
+fn read_standard<R: io::Input + Eprint>(rt: &R, buffer: &mut [u8]) -> Input
     ensures { Within 0 (length buffer.new) result }
 {
-    let input = read_input(libc::STDIN_FILENO, buffer);
-    if let Input::Unreadable = input {
-        tell(b"standard input cannot be read\n");
+    match read_input(&mut rt.reader(), buffer) {
+        Ok(n) => Input::Bytes(n),
+        Err(_) => {
+            tell(rt, b"standard input cannot be read\n");
+            Input::Unreadable
+        }
     }
-    input
+}
+
+// The words of an error, without the system's number behind them.
+fn without_number(words: &str) -> &str {
+    match words.split_once(" (os error ") {
+        Some((reason, _)) => reason,
+        None => words,
+    }
+}
+
+// Says why a file cannot be read.
+fn tell_why(rt: &impl Eprint, path: &str, error: io::Error) {
+    let words = InlineText::<320>::of(error);
+    let reason = without_number(words.as_str());
+    let _ = eprintln!(rt; "{path}: {reason}");
+}
+
+// Opens the file of this name, and reads it.
+fn read_path<R: Files>(rt: &R, path: &str, buffer: &mut [u8]) -> io::Result<usize>
+    ensures { IfOk result (λ n. n ≤ length buffer.new) }
+{
+    let mut file = fs::open(rt, path)?;
+    read_input(&mut file, buffer)
 }
 
 // Reads the file of this name, or says why it cannot.
-fn read_file(path: &[u8], buffer: &mut [u8]) -> Input
+fn read_file<R: Files + Eprint>(rt: &R, path: &[u8], buffer: &mut [u8]) -> Input
     ensures { Within 0 (length buffer.new) result }
 {
-    let fd = os::open_read(path);
-    if fd < 0 {
-        os::fail(path);
+    let Ok(path) = str::from_utf8(path) else {
+        let name = path.escape_ascii();
+        let _ = eprintln!(rt; "{name}: not text in UTF-8");
         return Input::Unreadable;
+    };
+    match read_path(rt, path, buffer) {
+        Ok(n) => Input::Bytes(n),
+        Err(error) => {
+            tell_why(rt, path, error);
+            Input::Unreadable
+        }
     }
-    let input = read_input(fd, buffer);
-    if let Input::Unreadable = input {
-        os::fail(path);
-    }
-    libc::close(fd);
-    input
 }
 
 // Reads the file that argument i names. One that is missing, empty, too long or begins with `-` names none.
-pub fn read_argument(i: usize, buffer: &mut [u8]) -> Input
+pub fn read_argument<R: Env + Files + Eprint>(rt: &R, i: usize, buffer: &mut [u8]) -> Input
     ensures { Within 0 (length buffer.new) result }
 {
     let mut name = [0u8; NAME_BYTES];
-    let n = os::arg(i, &mut name);
+    let Ok(n) = rt.arg(i, &mut name) else {
+        return Input::Misused;
+    };
     if n == 0 {
         return Input::Misused;
     }
     if name[0] == b'-' {
         return Input::Misused;
     }
-    read_file(&name[..n], buffer)
+    read_file(rt, &name[..n], buffer)
+}
+
+// Whether the program has an argument i, however long. Argument 0 is its own name.
+fn has_argument(rt: &impl Env, i: usize) -> bool {
+    !matches!(rt.arg(i, &mut []), Err(FillError::NotPresent))
 }
 
 // Reads the text of a program over one text: the file that its argument names, or standard input where it has none.
-pub fn read_text(buffer: &mut [u8]) -> Input
+pub fn read_text<R: Env + Files + io::Input + Eprint>(rt: &R, buffer: &mut [u8]) -> Input
     ensures { Within 0 (length buffer.new) result }
 {
-    let words = os::arg_count();
-    if words > 2 {
+    if has_argument(rt, 2) {
         return Input::Misused;
     }
-    if words == 2 {
-        return read_argument(1, buffer);
+    if has_argument(rt, 1) {
+        return read_argument(rt, 1, buffer);
     }
-    read_standard(buffer)
+    read_standard(rt, buffer)
 }
 
 // The same of the two texts of a program over two files.
@@ -116,10 +158,10 @@ pub enum TwoInputs {
 }
 
 // Reads the second file, behind a first text of m bytes.
-fn read_second(m: usize, second: &mut [u8]) -> TwoInputs
+fn read_second<R: Env + Files + Eprint>(rt: &R, m: usize, second: &mut [u8]) -> TwoInputs
     ensures { WithinTwo m (length second.new) result }
 {
-    match read_argument(2, second) {
+    match read_argument(rt, 2, second) {
         Input::Bytes(n) => TwoInputs::Bytes(m, n),
         Input::Unreadable => TwoInputs::Unreadable,
         Input::Misused => TwoInputs::Misused,
@@ -127,24 +169,24 @@ fn read_second(m: usize, second: &mut [u8]) -> TwoInputs
 }
 
 // Reads the files that the first two arguments name. Nothing is read of the second text where the first cannot be read.
-fn read_both(first: &mut [u8], second: &mut [u8]) -> TwoInputs
+fn read_both<R: Env + Files + Eprint>(rt: &R, first: &mut [u8], second: &mut [u8]) -> TwoInputs
     ensures { WithinTwo (length first.new) (length second.new) result }
 {
-    match read_argument(1, first) {
-        Input::Bytes(m) => read_second(m, second),
+    match read_argument(rt, 1, first) {
+        Input::Bytes(m) => read_second(rt, m, second),
         Input::Unreadable => TwoInputs::Unreadable,
         Input::Misused => TwoInputs::Misused,
     }
 }
 
 // Reads the texts of a program over two files: those that its two arguments name.
-pub fn read_two(first: &mut [u8], second: &mut [u8]) -> TwoInputs
+pub fn read_two<R: Env + Files + Eprint>(rt: &R, first: &mut [u8], second: &mut [u8]) -> TwoInputs
     ensures { WithinTwo (length first.new) (length second.new) result }
 {
-    if os::arg_count() != 3 {
+    if !has_argument(rt, 2) || has_argument(rt, 3) {
         return TwoInputs::Misused;
     }
-    read_both(first, second)
+    read_both(rt, first, second)
 }
 
 // The same of the three texts of a program over three files.
@@ -156,10 +198,10 @@ pub enum ThreeInputs {
 }
 
 // Reads the third file, behind texts of m and n bytes.
-fn read_third(m: usize, n: usize, third: &mut [u8]) -> ThreeInputs
+fn read_third<R: Env + Files + Eprint>(rt: &R, m: usize, n: usize, third: &mut [u8]) -> ThreeInputs
     ensures { WithinThree m n (length third.new) result }
 {
-    match read_argument(3, third) {
+    match read_argument(rt, 3, third) {
         Input::Bytes(k) => ThreeInputs::Bytes(m, n, k),
         Input::Unreadable => ThreeInputs::Unreadable,
         Input::Misused => ThreeInputs::Misused,
@@ -167,22 +209,27 @@ fn read_third(m: usize, n: usize, third: &mut [u8]) -> ThreeInputs
 }
 
 // Reads the texts of a program over three files: those that its three arguments name. Nothing is read behind one that cannot be read.
-pub fn read_three(first: &mut [u8], second: &mut [u8], third: &mut [u8]) -> ThreeInputs
+pub fn read_three<R: Env + Files + Eprint>(
+    rt: &R,
+    first: &mut [u8],
+    second: &mut [u8],
+    third: &mut [u8],
+) -> ThreeInputs
     ensures { WithinThree (length first.new) (length second.new) (length third.new) result }
 {
-    if os::arg_count() != 4 {
+    if !has_argument(rt, 3) || has_argument(rt, 4) {
         return ThreeInputs::Misused;
     }
-    match read_both(first, second) {
-        TwoInputs::Bytes(m, n) => read_third(m, n, third),
+    match read_both(rt, first, second) {
+        TwoInputs::Bytes(m, n) => read_third(rt, m, n, third),
         TwoInputs::Unreadable => ThreeInputs::Unreadable,
         TwoInputs::Misused => ThreeInputs::Misused,
     }
 }
 
 // Writes to standard output, or says that it cannot.
-pub fn write_out(bytes: &[u8]) {
-    if !io::write_all(libc::STDOUT_FILENO, bytes) {
-        tell(b"standard output cannot be written\n");
+pub fn write_out(rt: &(impl Print + Eprint), bytes: &[u8]) {
+    if rt.write_all(bytes).is_err() {
+        tell(rt, b"standard output cannot be written\n");
     }
 }
