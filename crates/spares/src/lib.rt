@@ -58,7 +58,7 @@ fn named(kept: u32, controls: &[u8], target: u8) -> [bool; 32]
 }
 
 // The spare lines of a gate, in order: those of `lines` from `first` up to `end`.
-#[derive(Drop)]
+#[derive(Clone, Copy)]
 pub struct Spares {
     pub lines: [u8; 32],
     pub first: usize,
