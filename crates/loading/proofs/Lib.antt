@@ -1,4 +1,2 @@
 -- The laws and theorems of this crate, in reading order.
 pub mod Loading
-pub mod Again
-pub mod Steps
