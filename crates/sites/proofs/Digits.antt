@@ -111,13 +111,6 @@ xor_below i k m h l b = xor_lt k m (bit i) b (bit_lt i k h l)
 
 -- ---- the lowest digit that is 1
 
--- its place, as a number and as an index into numbers of 8 bytes
-pub zeros_fit : (m : ℕ) → Fits w64 (count_trailing_zeros 64 m)
-zeros_fit m = omega (arith, trailing_le 64 m)
-
-pub zeros_times : (m : ℕ) → Fits w64 (count_trailing_zeros 64 m * 8)
-zeros_times m = omega (arith, trailing_le 64 m)
-
 pub lowest_one : (k m : ℕ) → 0 < m → m < 2 ^ k → digit (count_trailing_zeros k m) m ≡ 1
 unfolding digit count_trailing_zeros
 lowest_one zero m h l = omega arith
