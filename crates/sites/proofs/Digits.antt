@@ -4,13 +4,11 @@ use mathlib.Core.Logic.{◌≢◌}
 use Prim.Native.Nat.{ℕ, zero, suc, ◌+◌, ◌*◌, ◌/◌, ◌%◌, ◌^◌, ◌≤◌, ◌<◌, max}
 use native.Mathlib.Nat.{pow-suc, one-mul, max-zero}
 use native.Mathlib.Omega.{arith}
-use mir.Syntax.{w64}
-use mir.Val.{Fits}
 use lib.Dec.{lit<}
 use lib.Arith.{digits_div, digits_mod}
 use lib.Pow.{pow-lt, shl_exact}
 use lib.Bits.{bit_or, bit_xor, differ, or_step, xor_step, or_lt, xor_lt}
-use lib.Count.{under, count_trailing_zeros, trailing_le}
+use lib.Count.{under, count_trailing_zeros}
 use Rattle.sites.specs.Sites.{digit}
 
 -- ---- digits
