@@ -15,6 +15,7 @@ not_before n e (tie t h) = n (tie (omega arith) (omega arith))
 
 alone : (g : Gate) → (Less g g → ⊥) → First g (g ∷ [])
 alone g n s (here e) l = not_before n e l
+alone g n s (there _ x) l = elim x [ ]
 
 -- cn 0 1; not 1: both are in front, and the NOT comes before control 0
 not_first : First (Not 1) (cn 0 1 ∷ Not 1 ∷ [])
@@ -29,6 +30,7 @@ not_first s (there p (here e)) l = not_before {g = Not 1} {a = Not 1} same e l
     same : Less (Not 1) (Not 1) → ⊥
     same (low h) = omega arith
     same (tie t h) = omega arith
+not_first s (there p (there _ x)) l = elim x [ ]
 
 not_then_cn : Selects (cn 0 1 ∷ Not 1 ∷ []) (Not 1 ∷ cn 0 1 ∷ [])
 unfolding target slot
