@@ -11,9 +11,6 @@ loop-p-init c =
     let a = c.args in
     (omega arith, noting_start a.left.now a.r a.next_target.now a.next_control.now a.opened.now c.requires.r_in_bounds.0 c.requires.r_in_bounds.1 c.requires.opened_value)
 
-pub bounds-left-p : goal.bounds-left-p
-bounds-left-p c = omega (arith, c.requires.numbers.size)
-
 pub note_place-requires : goal.note_place-requires
 note_place-requires c =
     let w = c.loop-p.invariant.1 in

@@ -1,34 +1,12 @@
 -- `open_next` goes by the kind of the next use. Assumes nothing.
 use native.Mathlib.Omega.{arith}
-use mathlib.Core.Path.{◌≡◌, sym, ◌∙◌}
+use mathlib.Core.Path.{◌∙◌}
 use mathlib.Core.Logic.{◌≢◌}
 use mathlib.Core.Bool.{true}
 use lib.ListN.{get_or}
 use Rattle.selection.specs.Places.{line}
-use Rattle.selection.proofs.Running.{next_same, next_opened, control_use}
+use Rattle.selection.proofs.Running.{next_opened, control_use}
 use Rattle.selection.proofs.open_next.Goals as goal
-
-pub bounds-opened-y : goal.bounds-opened-y
-bounds-opened-y c = omega (arith, c.requires.state.lines.places)
-
-pub returns-then-r-p : goal.returns-then-r-p
-returns-then-r-p c = next_same c.args.y c.requires.state (λ h. absurd (omega (arith, h, c.if-r-p.true)))
-
-pub bounds-left-p : goal.bounds-left-p
-bounds-left-p c = omega (arith, c.if-r-p.false, c.requires.numbers.size)
-
-pub open_run-requires : goal.open_run-requires
-open_run-requires c =
-    let s = c.requires.state in
-    record {
-      numbers = c.requires.numbers;
-      single = c.requires.single;
-      lines = s.lines;
-      marks = s.marks;
-      next_uses = s.targets;
-      y_bound = (c.requires.y_bound.0, s.room_target, c.requires.y_bound.1);
-      y_value = sym c.line_of.ensures ∙ c.if-line_of-y.true;
-    }
 
 pub open_run-requires-else-line_of-y : goal.open_run-requires-else-line_of-y
 open_run-requires-else-line_of-y c =

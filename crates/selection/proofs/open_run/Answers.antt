@@ -6,19 +6,13 @@ use mathlib.Core.Bool.{not}
 use lib.ListN.{get_or, length-set}
 use Rattle.selection.specs.Places.{line}
 use Rattle.selection.proofs.Opening.{left_line, left_below, count_fits}
-use Rattle.selection.proofs.Running.{opening_start, opening_left, opening_next, opening_more, opening_stop, opening_end}
+use Rattle.selection.proofs.Running.{opening_start, opening_left, opening_next, opening_more, opening_stop}
 use Rattle.selection.proofs.open_run.Goals as goal
-
-pub bounds-opened-y : goal.bounds-opened-y
-bounds-opened-y c = omega (arith, c.requires.lines.places)
 
 pub loop-p-init : goal.loop-p-init
 loop-p-init c =
     let a = c.args in
     opening_start a.left.now a.r a.y a.as_target a.opened.now a.running.now a.places.now a.rows.now c.requires.y_bound.0 c.requires.lines c.requires.marks c.requires.y_bound.2
-
-pub bounds-left-p : goal.bounds-left-p
-bounds-left-p c = omega (arith, c.requires.numbers.size)
 
 pub returns-then-line_of-y : goal.returns-then-line_of-y
 returns-then-line_of-y c =
@@ -28,15 +22,6 @@ returns-then-line_of-y c =
     let d : line a.as_target (get_or a.left.now c.loop-p.p 0) ≢ a.y = λ e. c.if-line_of-y.true (c.line_of.ensures ∙ e) in
     let left = ((c.requires.lines.each a.y c.requires.y_bound.0).found (omega (arith, h, w.place, w.rises a.y))).left in
     opening_stop c.requires.y_bound.0 c.requires.numbers w left c.requires.y_value h d
-
-pub bounds-next-p : goal.bounds-next-p
-bounds-next-p c = omega (arith, c.loop-p-test.true, c.requires.y_bound.1)
-
-pub bounds-opened-y-in-loop-p : goal.bounds-opened-y-in-loop-p
-bounds-opened-y-in-loop-p c = omega (arith, c.loop-p.invariant.lines.places)
-
-pub bounds-running-y : goal.bounds-running-y
-bounds-running-y c = omega (arith, c.loop-p.invariant.lines.counts)
 
 pub overflow_add-running : goal.overflow_add-running
 overflow_add-running c =
@@ -82,6 +67,3 @@ loop-p-preserved c =
     let e = c.line_of-in-loop-p.ensures in
     let k = c.mark in
     opening_more c.requires.y_bound.0 c.requires.numbers c.loop-p.invariant a.next.now c.requires.next_uses h own _ k.new.places k.new.rows c.requires.single refl (rw e at k.ensures)
-
-pub returns : goal.returns
-returns c = opening_end c.requires.y_bound.0 c.requires.numbers c.loop-p.invariant (omega (arith, c.loop-p-test.false))
