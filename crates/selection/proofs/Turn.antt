@@ -97,9 +97,6 @@ module _ {l : List ℕ} {r : ℕ} {nt nc opened running places rows : List ℕ} 
     pub turn_room : p < length l
     turn_room = omega (arith, turn_inside, n.size)
 
-    pub turn_few : p < 4096
-    turn_few = omega (arith, turn_inside, n.few)
-
     pub turn_code : Code 32 (get_or l p 0)
     turn_code = n.code p shown.left
 
