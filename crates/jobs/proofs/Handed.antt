@@ -13,7 +13,6 @@ use Rattle.gates.specs.Code.{gates}
 use Rattle.gates.proofs.CodeLists.{length_gates, all_codes_take}
 use Rattle.records.specs.declared.Done.{Done}
 use Rattle.records.specs.Records.{filled_by}
-use Rattle.records.proofs.Walk_text_list_area.{Leads}
 use Rattle.text.specs.declared.Refusal.{Refusal}
 use Rattle.text.specs.declared.Refusal.TheVariants.{ShortAnswer}
 use Rattle.text.specs.declared.Head.{Head}
@@ -163,11 +162,6 @@ pub loaded_hands : (k : Kind) (s a codes : List ℕ) (room : ℕ) (x : Loaded) �
     → let o = output (writes k) (length a) in Hands (writes k) s room a (loaded_done o x room codes a) (loaded_area o x codes a)
 unfolding Says judged
 loaded_hands k s a codes room x e w = loaded_by (writes k) (judged_text (takes (writes k)) s) s a codes room x e (λ h c q. (text_passed (takes (writes k)) s room q).room) (rw (← takes_writes k) at w)
-
--- ---- to the thin function above it
-
-pub leads : (j : Job) → Leads (Hands j) (Said j)
-leads j = record { fits = λ s n a d b h. h.settles.fits; tells = λ s l a d b h. h.tells l refl }
 
 -- ---- jobs over several texts, one gate list and an answer area
 
