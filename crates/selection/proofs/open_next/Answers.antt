@@ -5,18 +5,12 @@ use mathlib.Core.Logic.{◌≢◌}
 use mathlib.Core.Bool.{true}
 use lib.ListN.{get_or}
 use Rattle.selection.specs.Places.{line}
-<<<<<<< HEAD
-use Rattle.selection.proofs.Running.{next_opened, control_use}
-use Rattle.selection.proofs.open_next.Goals as goal
-
-=======
 use Rattle.selection.proofs.Running.{next_same, next_opened, control_use}
 use Rattle.selection.proofs.open_next.Goals as goal
 
 pub returns-then-r-p : goal.returns-then-r-p
 returns-then-r-p c = next_same c.args.y c.requires.state (λ h. absurd (omega (arith, h, c.if-r-p.true)))
 
->>>>>>> 8113d6824a502bf70cc53e7cf32c6865f3a407ed
 pub open_run-requires-else-line_of-y : goal.open_run-requires-else-line_of-y
 open_run-requires-else-line_of-y c =
     let a = c.args in

@@ -6,11 +6,7 @@ use mathlib.Core.Bool.{not}
 use lib.ListN.{get_or, length-set}
 use Rattle.selection.specs.Places.{line}
 use Rattle.selection.proofs.Opening.{left_line, left_below, count_fits}
-<<<<<<< HEAD
-use Rattle.selection.proofs.Running.{opening_start, opening_left, opening_next, opening_more, opening_stop}
-=======
 use Rattle.selection.proofs.Running.{opening_start, opening_left, opening_next, opening_more, opening_stop, opening_end}
->>>>>>> 8113d6824a502bf70cc53e7cf32c6865f3a407ed
 use Rattle.selection.proofs.open_run.Goals as goal
 
 pub loop-p-init : goal.loop-p-init
@@ -71,9 +67,6 @@ loop-p-preserved c =
     let e = c.line_of-in-loop-p.ensures in
     let k = c.mark in
     opening_more c.requires.y_bound.0 c.requires.numbers c.loop-p.invariant a.next.now c.requires.next_uses h own _ k.new.places k.new.rows c.requires.single refl (rw e at k.ensures)
-<<<<<<< HEAD
-=======
 
 pub returns : goal.returns
 returns c = opening_end c.requires.y_bound.0 c.requires.numbers c.loop-p.invariant (omega (arith, c.loop-p-test.false))
->>>>>>> 8113d6824a502bf70cc53e7cf32c6865f3a407ed
