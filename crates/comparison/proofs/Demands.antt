@@ -1,6 +1,6 @@
 -- The numbers that compare gives are the table's, and what it leaves is what the papers say. Assumes nothing.
-use Prim.Native.Nat.{ℕ, ◌≤◌}
-use mathlib.Core.Path.{◌≡◌, refl, ap, ◌∙◌}
+use Prim.Native.Nat.{ℕ}
+use mathlib.Core.Path.{◌≡◌, ap, ◌∙◌}
 use mathlib.Core.Logic.{◌⊎◌, inl, inr}
 use mathlib.Core.List.{List, [], ◌∷◌}
 use native.Mathlib.Omega.{arith}
@@ -12,7 +12,7 @@ use Rattle.text.specs.declared.Kind.TheVariants as kind
 use Rattle.text.specs.declared.Refusal.{Refusal}
 use Rattle.text.specs.Refusals.{number_of}
 use Rattle.ordering.specs.Comparing.{count_of, compare_lists}
-use Rattle.habits.specs.Habits.{fine, away, Circuit, text_judged, Lent, Exit, Answer, filled, all_filled, refusal, success, answered}
+use Rattle.habits.specs.Habits.{fine, away, Lent, Exit, Answer, filled, all_filled, refusal, success, answered}
 use Rattle.habits.specs.Demands.{Refuses, Accepts}
 use Rattle.habits.proofs.Refused.{refuses_exactly_if, text_accepted, refuses_or_accepts, some_number}
 use Rattle.habits.proofs.Says.{says_away, says_fine, filled_holds}

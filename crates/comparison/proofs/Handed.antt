@@ -10,13 +10,12 @@ use Rattle.text.specs.declared.Head.{Head}
 use Rattle.text.specs.declared.Kind.TheVariants as kind
 use Rattle.text.specs.declared.Refusal.{Refusal}
 use Rattle.text.specs.Judging.{turned_away, accepted}
-use Rattle.habits.specs.Habits.{fine, away, Circuit, told, text_judged}
+use Rattle.habits.specs.Habits.{fine, away, told, text_judged}
 use Rattle.loading.specs.declared.Loaded.{Loaded}
 use Rattle.loading.specs.declared.Loaded.TheVariants as loaded
-use Rattle.records.proofs.Walk_text_list_text_list.{Leads}
 use Rattle.jobs.specs.Jobs.{judged_text}
 use Rattle.outcomes.specs.Outcomes.{refused_two}
-use Rattle.jobs.specs.Handing.{exit_of_two, AcceptsReduced, LoadsReduced}
+use Rattle.jobs.specs.Handing.{AcceptsReduced, LoadsReduced}
 use Rattle.jobs.proofs.One.{text_passed}
 use Rattle.jobs.proofs.Habits.{judged_told}
 use Rattle.jobs.proofs.Handed.{refused_two_hands, succeeded_two_hands}
@@ -46,7 +45,3 @@ module _ (s t codes codes' : List ℕ) (k j : ℕ) where
       succeeded_two_hands (λ k j. judged s k t j) Compared m n _ k j codes codes' (record { lines = g.lines; gates = w.circuit }, record { lines = h.lines; gates = v.circuit })
       (rw (text_fine 1 s k w.judged, text_fine 2 t j v.judged)) (gates (take m codes), gates (take n codes'), w.reduced, v.reduced, refl)
       all all' w.renderable v.renderable (text_passed kind.Circuit s k w.judged).room (text_passed kind.Circuit t j v.judged).room
-
--- to the thin function above it
-pub leads : Leads Hands (λ s l t m o l' m'. Compare s l t m (exit_of_two o l' m'))
-leads = record { fits = λ s k t j d h. (h.first.fits, h.second.fits); tells = λ s l t m d h. h.tells l m refl refl }

@@ -19,7 +19,6 @@ use Rattle.text.specs.Judging.{Judged, turned_away}
 use Rattle.loading.specs.declared.Loaded.{Loaded}
 use Rattle.loading.specs.declared.Loaded.TheVariants as loaded
 use Rattle.loading.specs.Loaded.{LoadsTo}
-use Rattle.records.proofs.Walk_text_list_area.{Leads}
 use Rattle.jobs.specs.Jobs.{reducing, output, judged, judged_text}
 use Rattle.jobs.specs.Handing.{exit_of, AcceptsReduced, LoadsReduced, loaded_done, loaded_area}
 use Rattle.jobs.proofs.One.{text_passed, passed_valid}
@@ -52,6 +51,3 @@ pub loaded_hands : (s a codes : List ℕ) (room : ℕ) (x : Loaded) → length c
 unfolding Invert judged
 loaded_hands s a codes room x e w = loaded_by reducing (λ k. inverse_judged (judged_text Circuit s k)) s a codes room x e (λ h c q. (text_inverse s room q).1.room) w
 
--- to the thin function above it
-pub leads : Leads Hands (λ s l a o l' a'. Invert (record { text = s; list = l; area = a }) (exit_of o l' a'))
-leads = record { fits = λ s n a d b h. h.settles.fits; tells = λ s l a d b h. h.tells l refl }

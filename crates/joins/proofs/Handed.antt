@@ -11,7 +11,6 @@ use Rattle.text.specs.declared.Refusal.{Refusal}
 use Rattle.habits.specs.Habits.{away}
 use Rattle.habits.proofs.Yields.{yields_fine}
 use Rattle.loading.specs.Loaded.{Renderable}
-use Rattle.records.proofs.Walk_text_list_text_area.{Leads}
 use Rattle.jobs.specs.Jobs.{as_text}
 use Rattle.jobs.specs.Habits.{Right}
 use Rattle.outcomes.specs.Outcomes.{refused, with_text}
@@ -39,6 +38,3 @@ module _ (s : List ℕ) (room : ℕ) (t a : List ℕ) where
       written_text_hands (λ k. judged s k t) (Right as_text) a h r room codes' (circuit_of h m codes) w.judged (gates (take r codes'), x.reduced h.lines y.0.valid, refl)
       all (reduced_renderable w.renderable x) y.1
 
--- to the thin function above it
-pub leads : Leads Hands (λ s l t a o l' a'. Join s l t a (exit_of_text o l' a'))
-leads = record { fits = λ s k t a d b h. h.settles.fits; tells = λ s l t a d b h. h.tells l refl }
