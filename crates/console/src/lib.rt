@@ -8,6 +8,8 @@ ghost use Rattle.console.specs.Output.{output_of, Prints, Answers, Does, Succeed
 
 use files::Input;
 use records::Outcome;
+use std::io;
+use std::rt::{Env, Files};
 
 // How many bytes a text may have.
 pub const TEXT_BYTES: usize = 60000;
@@ -68,36 +70,36 @@ pub fn answer(program: Program, text: &[u8], out: &mut [u8; ANSWER_BYTES]) -> us
 }
 
 // Says how a program over one text is called.
-fn tell_usage(program: Program) {
+fn tell_usage(rt: &impl Eprint, program: Program) {
     match program {
-        Program::Map => files::tell(b"usage: map [FILE]\n"),
-        Program::Reduce => files::tell(b"usage: reduce [FILE]\n"),
-        Program::Quote => files::tell(b"usage: quote [FILE]\n"),
+        Program::Map => files::tell(rt, b"usage: map [FILE]\n"),
+        Program::Reduce => files::tell(rt, b"usage: reduce [FILE]\n"),
+        Program::Quote => files::tell(rt, b"usage: quote [FILE]\n"),
     }
 }
 
 // ---- a program
 
 // Writes what a program is to write for a text, which its contract names.
-fn print(program: Program, text: &[u8], bytes: &[u8])
+fn print<R: Print + Eprint>(rt: &R, program: Program, text: &[u8], bytes: &[u8])
     requires { Prints program text.now bytes.now }
 {
-    files::write_out(bytes);
+    files::write_out(rt, bytes);
 }
 
 // Writes the answer of a program for a text.
-fn run_on(program: Program, text: &[u8]) {
+fn run_on<R: Print + Eprint>(rt: &R, program: Program, text: &[u8]) {
     let mut out = [0u8; ANSWER_BYTES];
     let n = answer(program, text, &mut out);
-    print(program, text, &out[..n]);
+    print(rt, program, text, &out[..n]);
 }
 
 // A program: does its job on a text. The buffer takes one byte more than a text may have, so a longer one is seen to be too long.
-pub fn run(program: Program) {
+pub fn run<R: Env + Files + io::Input + Print + Eprint>(rt: &R, program: Program) {
     let mut buffer = [0u8; TEXT_BYTES + 1];
-    match files::read_text(&mut buffer) {
-        Input::Bytes(n) => run_on(program, &buffer[..n]),
+    match files::read_text(rt, &mut buffer) {
+        Input::Bytes(n) => run_on(rt, program, &buffer[..n]),
         Input::Unreadable => {}
-        Input::Misused => tell_usage(program),
+        Input::Misused => tell_usage(rt, program),
     }
 }

@@ -1,6 +1,6 @@
 -- What the covered part of invert hands over makes the job say what it should: of the gate list that needs only its length. Assumes nothing.
 use Prim.Native.Nat.{ℕ}
-use mathlib.Core.Path.{◌≡◌, refl, ap, ◌∙◌}
+use mathlib.Core.Path.{◌≡◌, ap, ◌∙◌}
 use mathlib.Core.List.{List}
 use native.Mathlib.Nat.{le_refl}
 use native.Mathlib.Omega.{arith}
@@ -20,7 +20,7 @@ use Rattle.loading.specs.declared.Loaded.{Loaded}
 use Rattle.loading.specs.declared.Loaded.TheVariants as loaded
 use Rattle.loading.specs.Loaded.{LoadsTo}
 use Rattle.jobs.specs.Jobs.{reducing, output, judged, judged_text}
-use Rattle.jobs.specs.Handing.{exit_of, AcceptsReduced, LoadsReduced, loaded_done, loaded_area}
+use Rattle.jobs.specs.Handing.{AcceptsReduced, LoadsReduced, loaded_done, loaded_area}
 use Rattle.jobs.proofs.One.{text_passed, passed_valid}
 use Rattle.jobs.proofs.Handed.{loaded_by}
 use Rattle.inversion.specs.Invert.{inverse_judged, Invert, Hands}
@@ -50,4 +50,3 @@ pub loaded_hands : (s a codes : List ℕ) (room : ℕ) (x : Loaded) → length c
     → let o = output reducing (length a) in Hands s room a (loaded_done o x room codes a) (loaded_area o x codes a)
 unfolding Invert judged
 loaded_hands s a codes room x e w = loaded_by reducing (λ k. inverse_judged (judged_text Circuit s k)) s a codes room x e (λ h c q. (text_inverse s room q).1.room) w
-

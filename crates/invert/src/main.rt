@@ -22,25 +22,25 @@ fn answer(text: &[u8], out: &mut [u8; console::ANSWER_BYTES]) -> usize
 }
 
 // Writes what the program is to write for a text, which its contract names.
-fn print(text: &[u8], bytes: &[u8])
+fn print<R: Print + Eprint>(rt: &R, text: &[u8], bytes: &[u8])
     requires { Prints text.now bytes.now }
 {
-    files::write_out(bytes);
+    files::write_out(rt, bytes);
 }
 
 // Writes the answer for a text.
-fn run_on(text: &[u8]) {
+fn run_on<R: Print + Eprint>(rt: &R, text: &[u8]) {
     let mut out = [0u8; console::ANSWER_BYTES];
     let n = answer(text, &mut out);
-    print(text, &out[..n]);
+    print(rt, text, &out[..n]);
 }
 
 // The buffer takes one byte more than a text may have, so a longer one is seen to be too long.
-fn main() {
+fn main(rt: HostRuntime) {
     let mut buffer = [0u8; console::TEXT_BYTES + 1];
-    match files::read_text(&mut buffer) {
-        Input::Bytes(n) => run_on(&buffer[..n]),
+    match files::read_text(&rt, &mut buffer) {
+        Input::Bytes(n) => run_on(&rt, &buffer[..n]),
         Input::Unreadable => {}
-        Input::Misused => files::tell(b"usage: invert [FILE]\n"),
+        Input::Misused => files::tell(&rt, b"usage: invert [FILE]\n"),
     }
 }

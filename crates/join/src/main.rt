@@ -22,26 +22,26 @@ fn answer(first: &[u8], second: &[u8], out: &mut [u8; console::ANSWER_BYTES]) ->
 }
 
 // Writes what the program is to write for two texts, which its contract names.
-fn print(first: &[u8], second: &[u8], bytes: &[u8])
+fn print<R: Print + Eprint>(rt: &R, first: &[u8], second: &[u8], bytes: &[u8])
     requires { Prints first.now second.now bytes.now }
 {
-    files::write_out(bytes);
+    files::write_out(rt, bytes);
 }
 
 // Writes the answer for two texts.
-fn run_on(first: &[u8], second: &[u8]) {
+fn run_on<R: Print + Eprint>(rt: &R, first: &[u8], second: &[u8]) {
     let mut out = [0u8; console::ANSWER_BYTES];
     let n = answer(first, second, &mut out);
-    print(first, second, &out[..n]);
+    print(rt, first, second, &out[..n]);
 }
 
 // Each buffer takes one byte more than a text may have, so a longer one is seen to be too long.
-fn main() {
+fn main(rt: HostRuntime) {
     let mut first = [0u8; console::TEXT_BYTES + 1];
     let mut second = [0u8; console::TEXT_BYTES + 1];
-    match files::read_two(&mut first, &mut second) {
-        TwoInputs::Bytes(m, n) => run_on(&first[..m], &second[..n]),
+    match files::read_two(&rt, &mut first, &mut second) {
+        TwoInputs::Bytes(m, n) => run_on(&rt, &first[..m], &second[..n]),
         TwoInputs::Unreadable => {}
-        TwoInputs::Misused => files::tell(b"usage: join FIRST SECOND\n"),
+        TwoInputs::Misused => files::tell(&rt, b"usage: join FIRST SECOND\n"),
     }
 }

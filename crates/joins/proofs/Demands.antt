@@ -17,7 +17,7 @@ use Rattle.text.specs.declared.Refusal.TheVariants.{TooMany, ShortAnswer, Differ
 use Rattle.text.specs.Refusals.{number_of}
 use Rattle.text.specs.Text.{circuit_text}
 use Rattle.text.proofs.Accepted.{judge_accepted, same_heads}
-use Rattle.habits.specs.Habits.{fine, away, Circuit, text_judged, Lent, Exit, Answer, filled, all_filled, refusal, success, answered}
+use Rattle.habits.specs.Habits.{fine, away, Lent, Exit, Answer, filled, all_filled, refusal, success, answered}
 use Rattle.habits.specs.Demands.{Refuses, Accepts}
 use Rattle.habits.proofs.Refused.{refuses_exactly_if, text_accepted, refuses_or_accepts, some_number}
 use Rattle.habits.proofs.Says.{says_away, says_fine, filled_first, filled_later}

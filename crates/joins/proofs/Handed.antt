@@ -14,7 +14,7 @@ use Rattle.loading.specs.Loaded.{Renderable}
 use Rattle.jobs.specs.Jobs.{as_text}
 use Rattle.jobs.specs.Habits.{Right}
 use Rattle.outcomes.specs.Outcomes.{refused, with_text}
-use Rattle.jobs.specs.Handing.{exit_of_text, written_done, written_area}
+use Rattle.jobs.specs.Handing.{written_done, written_area}
 use Rattle.jobs.proofs.Handed.{refused_text_hands, written_text_hands}
 use Rattle.joins.specs.Join.{judged, Join, Hands, circuit_of, Accepts}
 use Rattle.joins.proofs.One.{yields_judged}
@@ -37,4 +37,3 @@ module _ (s : List ℕ) (room : ℕ) (t a : List ℕ) where
       let y = yields_fine (yields_judged s room t) w.judged in
       written_text_hands (λ k. judged s k t) (Right as_text) a h r room codes' (circuit_of h m codes) w.judged (gates (take r codes'), x.reduced h.lines y.0.valid, refl)
       all (reduced_renderable w.renderable x) y.1
-

@@ -3,6 +3,6 @@
 
 use console::Program;
 
-fn main() {
-    console::run(Program::Map);
+fn main(rt: HostRuntime) {
+    console::run(&rt, Program::Map);
 }

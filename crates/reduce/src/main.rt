@@ -3,6 +3,6 @@
 
 use console::Program;
 
-fn main() {
-    console::run(Program::Reduce);
+fn main(rt: HostRuntime) {
+    console::run(&rt, Program::Reduce);
 }

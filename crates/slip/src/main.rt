@@ -25,27 +25,27 @@ fn answer(first: &[u8], slip: &[u8], second: &[u8], out: &mut [u8; ANSWER_BYTES]
 }
 
 // Writes what the program is to write for three texts, which its contract names.
-fn print(first: &[u8], slip: &[u8], second: &[u8], bytes: &[u8])
+fn print<R: Print + Eprint>(rt: &R, first: &[u8], slip: &[u8], second: &[u8], bytes: &[u8])
     requires { Prints first.now slip.now second.now bytes.now }
 {
-    files::write_out(bytes);
+    files::write_out(rt, bytes);
 }
 
 // Writes the answer for three texts.
-fn run_on(first: &[u8], slip: &[u8], second: &[u8]) {
+fn run_on<R: Print + Eprint>(rt: &R, first: &[u8], slip: &[u8], second: &[u8]) {
     let mut out = [0u8; ANSWER_BYTES];
     let n = answer(first, slip, second, &mut out);
-    print(first, slip, second, &out[..n]);
+    print(rt, first, slip, second, &out[..n]);
 }
 
 // Each buffer takes one byte more than a text may have, so a longer one is seen to be too long.
-fn main() {
+fn main(rt: HostRuntime) {
     let mut first = [0u8; console::TEXT_BYTES + 1];
     let mut slip = [0u8; console::TEXT_BYTES + 1];
     let mut second = [0u8; console::TEXT_BYTES + 1];
-    match files::read_three(&mut first, &mut slip, &mut second) {
-        ThreeInputs::Bytes(m, k, n) => run_on(&first[..m], &slip[..k], &second[..n]),
+    match files::read_three(&rt, &mut first, &mut slip, &mut second) {
+        ThreeInputs::Bytes(m, k, n) => run_on(&rt, &first[..m], &slip[..k], &second[..n]),
         ThreeInputs::Unreadable => {}
-        ThreeInputs::Misused => files::tell(b"usage: slip CIRCUIT SLIP SECOND\n"),
+        ThreeInputs::Misused => files::tell(&rt, b"usage: slip CIRCUIT SLIP SECOND\n"),
     }
 }
