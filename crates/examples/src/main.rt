@@ -2,59 +2,80 @@
 // line that the papers say and those that came back, and says whether they agree.
 #![tactic(auto)]
 
-ghost use Rattle.std.specs.Prelude.{◌≤◌, length};
-ghost use Rattle.io.specs.Counts.{IsPrefixLen};
+ghost use Rattle.std.specs.Prelude.{◌≡◌, ◌≤◌, length, take};
 
 use records::Outcome;
+use std::io;
 
 // How many bytes the longest answer has: 11 for line 1 and for each of 4,096 gates.
 const ANSWER_BYTES: usize = 11 + 11 * 4096;
 
-fn print(bytes: &[u8]) {
-    io::write_all(libc::STDOUT_FILENO, bytes);
+fn print(rt: &impl Print, text: &str) -> io::Result<()> {
+    rt.print(text)
 }
 
-fn print_two(before: &[u8], number: u8, line: usize) {
-    print(before);
-    io::print_decimal(libc::STDOUT_FILENO, number as u64);
-    print(b" ");
-    io::print_decimal(libc::STDOUT_FILENO, line as u64);
+fn print_two(rt: &impl Print, before: &str, number: u8, line: usize) -> io::Result<()> {
+    print!(rt; "{before}{number} {line}")
 }
 
 // Writes the line of one job and example.
-fn tell(job: &[u8], example: &[u8], number: u8, line: usize, given: Outcome) {
-    print(job);
-    print(example);
-    print_two(b": expected ", number, line);
-    print_two(b", given ", given.number, given.line);
+fn tell(
+    rt: &impl Print,
+    job: &str,
+    example: &str,
+    number: u8,
+    line: usize,
+    given: Outcome,
+) -> io::Result<()> {
+    print(rt, job)?;
+    print(rt, example)?;
+    print_two(rt, ": expected ", number, line)?;
+    print_two(rt, ", given ", given.number, given.line)?;
     if given.number == number && given.line == line {
-        print(b": ok\n");
-        return;
+        return print(rt, ": ok\n");
     }
-    print(b": WRONG\n");
+    print(rt, ": WRONG\n")
 }
 
 // Tries the job that takes a cascade, with no answer area and with one.
-fn try_cascade(example: &[u8], text: &[u8], number: u8, line: usize) {
+fn try_cascade(
+    rt: &impl Print,
+    example: &str,
+    text: &[u8],
+    number: u8,
+    line: usize,
+) -> io::Result<()> {
     let mut none = [0u8; 0];
     let quoted = jobs::map_text(text, &mut none);
-    tell(b"quote only, ", example, number, line, quoted);
+    tell(rt, "quote only, ", example, number, line, quoted)?;
     let mut answer = [0u8; ANSWER_BYTES];
     let given = jobs::map_text(text, &mut answer);
-    tell(b"map, ", example, number, line, given);
+    tell(rt, "map, ", example, number, line, given)
 }
 
 // Tries the job that takes a circuit.
-fn try_circuit(example: &[u8], text: &[u8], number: u8, line: usize) {
+fn try_circuit(
+    rt: &impl Print,
+    example: &str,
+    text: &[u8],
+    number: u8,
+    line: usize,
+) -> io::Result<()> {
     let mut answer = [0u8; ANSWER_BYTES];
     let given = jobs::reduce_text(text, &mut answer);
-    tell(b"reduce, ", example, number, line, given);
+    tell(rt, "reduce, ", example, number, line, given)
 }
 
 // Tries both jobs.
-fn try_jobs(example: &[u8], text: &[u8], number: u8, line: usize) {
-    try_cascade(example, text, number, line);
-    try_circuit(example, text, number, line);
+fn try_jobs(
+    rt: &impl Print,
+    example: &str,
+    text: &[u8],
+    number: u8,
+    line: usize,
+) -> io::Result<()> {
+    try_cascade(rt, example, text, number, line)?;
+    try_circuit(rt, example, text, number, line)
 }
 
 // Adds bytes behind the first `at` of the text, as far as there is room, and gives the place behind them.
@@ -74,7 +95,8 @@ fn add(text: &mut [u8], at: usize, bytes: &[u8]) -> usize
 
 // A text that begins so and goes on with this many gates of 15 controls, and its length.
 fn add_gates(text: &mut [u8], front: &[u8], count: usize) -> usize
-    ensures { IsPrefixLen result text.new }
+    ensures within { result ≤ length text.new }
+    ensures prefix { result ≡ length (take result text.new) }
 {
     let mut end = add(text, 0, front);
     let mut i = 0;
@@ -90,78 +112,98 @@ fn add_gates(text: &mut [u8], front: &[u8], count: usize) -> usize
 }
 
 // A text that begins so, gates of 15 controls, as many as told.
-fn try_gates(example: &[u8], front: &[u8], count: usize, number: u8, line: usize) {
+fn try_gates(
+    rt: &impl Print,
+    example: &str,
+    front: &[u8],
+    count: usize,
+    number: u8,
+    line: usize,
+) -> io::Result<()> {
     let mut text = [0u8; 2048];
     let n = add_gates(&mut text, front, count);
-    try_cascade(example, &text[..n], number, line);
+    try_cascade(rt, example, &text[..n], number, line)
 }
 
 // A text of 60,001 bytes.
-fn try_overlong() {
+fn try_overlong(rt: &impl Print) -> io::Result<()> {
     let mut text = [0u8; 60001];
     add(&mut text, 0, b"(lines 32)\n");
-    try_jobs(b"60,001 bytes", &text, 1, 0);
+    try_jobs(rt, "60,001 bytes", &text, 1, 0)
 }
 
 // Gates of 15 controls on 17 lines: eleven of them and twelve, and eleven with negated controls.
-fn try_fifteen() {
+fn try_fifteen(rt: &impl Print) -> io::Result<()> {
     try_gates(
-        b"eleven gates of 15 controls on 17 lines",
+        rt,
+        "eleven gates of 15 controls on 17 lines",
         b"(lines 17)\n",
         11,
         0,
         0,
-    );
+    )?;
     try_gates(
-        b"twelve gates of 15 controls on 17 lines",
+        rt,
+        "twelve gates of 15 controls on 17 lines",
         b"(lines 17)\n",
         12,
         9,
         13,
-    );
+    )?;
     try_gates(
-        b"eleven gates of 15 controls on 17 lines, two controls negated",
+        rt,
+        "eleven gates of 15 controls on 17 lines, two controls negated",
         b"(lines 17)\n(mct (-0 1 2 3 4 5 6 7 8 9 10 11 12 13 -14) 15)\n",
         10,
         0,
         0,
-    );
+    )?;
     try_gates(
-        b"eleven gates of 15 controls on 17 lines, three controls negated",
+        rt,
+        "eleven gates of 15 controls on 17 lines, three controls negated",
         b"(lines 17)\n(mct (-0 1 2 3 4 -5 6 7 8 9 10 11 12 13 -14) 15)\n",
         10,
         9,
         12,
-    );
+    )
 }
 
 // A gate of 16 controls, too wide on any number of lines. On 17 lines it has no spare line either, and this is tried first.
-fn try_sixteen() {
+fn try_sixteen(rt: &impl Print) -> io::Result<()> {
     try_cascade(
-        b"16 rising controls on 17 lines",
+        rt,
+        "16 rising controls on 17 lines",
         b"(lines 17)\n(mct (0 1 2 3 4 5 6 7 8 9 10 11 12 13 14 15) 16)\n",
         8,
         2,
-    );
+    )?;
     try_cascade(
-        b"16 rising controls on 18 lines",
+        rt,
+        "16 rising controls on 18 lines",
         b"(lines 18)\n(mct (0 1 2 3 4 5 6 7 8 9 10 11 12 13 14 15) 16)\n",
         7,
         2,
-    );
+    )
 }
 
-fn main() {
-    try_fifteen();
-    try_sixteen();
-    try_jobs(b"header 32", b"(lines 32)\n", 0, 0);
-    try_jobs(b"header 33", b"(lines 33)\n", 4, 1);
-    try_overlong();
+fn main(rt: HostRuntime) -> io::Result<()> {
+    try_fifteen(&rt)?;
+    try_sixteen(&rt)?;
+    try_jobs(&rt, "header 32", b"(lines 32)\n", 0, 0)?;
+    try_jobs(&rt, "header 33", b"(lines 33)\n", 4, 1)?;
+    try_overlong(&rt)?;
     try_cascade(
-        b"last line without byte 10",
+        &rt,
+        "last line without byte 10",
         b"(lines 3)\n(mct (0 1) 2)",
         3,
         2,
-    );
-    try_circuit(b"last line without byte 10", b"(lines 3)\n(cn 0 1)", 3, 2);
+    )?;
+    try_circuit(
+        &rt,
+        "last line without byte 10",
+        b"(lines 3)\n(cn 0 1)",
+        3,
+        2,
+    )
 }
