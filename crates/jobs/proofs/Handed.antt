@@ -32,7 +32,7 @@ use Rattle.jobs.specs.Jobs.{Job, mapping, takes, Output, as_text, as_count, outp
 use Rattle.jobs.proofs.One.{text_passed, passed_valid}
 use Rattle.outcomes.proofs.Outcomes.{refusal_list, success_list, refusal_settles}
 use Rattle.outcomes.specs.Outcomes.{limit_of, Settles, success_filling, refused, refused_two, succeeded_two, succeeded, with_text}
-use Rattle.jobs.specs.Handing.{exit_of, Said, HandsOne, Hands, exit_of_text, HandsText, AcceptsReduced, LoadsReduced, HandsTwo, text_of, written_done, written_area, quotes, put_done, put_area, loaded_done, loaded_area, Answerable}
+use Rattle.jobs.specs.Handing.{exit_of, HandsOne, Hands, exit_of_text, HandsText, AcceptsReduced, LoadsReduced, HandsTwo, text_of, written_done, written_area, quotes, put_done, put_area, loaded_done, loaded_area, Answerable}
 
 -- ---- the gate list
 
