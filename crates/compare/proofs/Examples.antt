@@ -38,8 +38,8 @@ table =
     -- a NOT comes before control 0
     ∷ (("(lines 2)" ∷ "(not 1)" ∷ []), ("(lines 2)" ∷ "(v 0 1)" ∷ []), "(less)\n")
     -- a malformed second text; a first text that is refused before it
-    ∷ (("(lines 2)" ∷ []), ("(lines 2)" ∷ "(not 00)" ∷ []), "(turned_away 3 2 2)\n")
-    ∷ (("(lines 2)" ∷ "(cn 0 1)" ∷ "(cn 1 1)" ∷ []), ("(lines 2)" ∷ "(not 00)" ∷ []), "(turned_away 5 3 1)\n")
+    ∷ (("(lines 2)" ∷ []), ("(lines 2)" ∷ "(not 00)" ∷ []), "(turned-away 3 2 2)\n")
+    ∷ (("(lines 2)" ∷ "(cn 0 1)" ∷ "(cn 1 1)" ∷ []), ("(lines 2)" ∷ "(not 00)" ∷ []), "(turned-away 5 3 1)\n")
     ∷ []
 
 -- what is computed for a row's texts is what it says

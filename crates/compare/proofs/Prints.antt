@@ -57,7 +57,7 @@ shown_ended Greater = (bytes "(greater)", refl)
 -- a refusal too
 shows_ended : (v : Judgement (Circuit × Circuit)) (w : List ℕ) → PrintsBy v w → Ended w
 unfolding PrintsBy
-shows_ended (away r u l) w e = rw e (three_numbers_ended (bytes "(turned_away ") _ l u)
+shows_ended (away r u l) w e = rw e (three_numbers_ended (bytes "(turned-away ") _ l u)
 shows_ended (fine (c, d)) w (k, x, e) = rw e (shown_ended k)
 
 -- the last byte that the program writes is 10

@@ -34,7 +34,7 @@ table =
     (("(lines 2)" ∷ "(v 0 1)" ∷ []), "(lines 2)\n(vp 0 1)\n")
     -- the list that map gives for `(mct (0 1) 2)`
     ∷ (("(lines 3)" ∷ "(v 0 2)" ∷ "(v 1 2)" ∷ "(cn 0 1)" ∷ "(vp 1 2)" ∷ "(cn 0 1)" ∷ []), "(lines 3)\n(cn 0 1)\n(vp 0 2)\n(v 1 2)\n(cn 0 1)\n(vp 1 2)\n")
-    ∷ (("(lines 2)" ∷ "(not 0)" ∷ "(not 2)" ∷ []), "(turned_away 4 3)\n")
+    ∷ (("(lines 2)" ∷ "(not 0)" ∷ "(not 2)" ∷ []), "(turned-away 4 3)\n")
     ∷ []
 
 -- what is computed for a row's text is what it says

@@ -36,8 +36,8 @@ table =
     -- a circuit and its inverse
     ∷ (("(lines 3)" ∷ "(v 0 1)" ∷ "(cn 1 2)" ∷ []), ("(lines 3)" ∷ "(cn 1 2)" ∷ "(vp 0 1)" ∷ []), "(lines 3)\n")
     -- different line counts; a malformed second text is told before them
-    ∷ (("(lines 2)" ∷ []), ("(lines 3)" ∷ []), "(turned_away 11 0 0)\n")
-    ∷ (("(lines 2)" ∷ []), ("(lines 3)" ∷ "(not 00)" ∷ []), "(turned_away 3 2 2)\n")
+    ∷ (("(lines 2)" ∷ []), ("(lines 3)" ∷ []), "(turned-away 11 0 0)\n")
+    ∷ (("(lines 2)" ∷ []), ("(lines 3)" ∷ "(not 00)" ∷ []), "(turned-away 3 2 2)\n")
     ∷ []
 
 -- what is computed for a row's texts is what it says

@@ -46,7 +46,7 @@ prints_one s t = let y = only s t (judged s 4096 t) refl in (printed_by (judged 
 
 shows_ended : (v : Judgement Circuit) (w : List ℕ) → PrintsBy v w → Ended w
 unfolding PrintsBy
-shows_ended (away r u l) w e = rw e (three_numbers_ended (bytes "(turned_away ") _ l u)
+shows_ended (away r u l) w e = rw e (three_numbers_ended (bytes "(turned-away ") _ l u)
 shows_ended (fine c) w (r, x, e) = rw e (shown_ended as_text c.lines r)
 
 -- the last byte that the program writes is 10

@@ -58,7 +58,7 @@ shown_ended as_count n r = one_number_ended (bytes "(quote ") _
 
 pub shows_ended : (k : Output) (d : Judged) (w : List ℕ) → PrintsBy k d w → Ended w
 unfolding PrintsBy
-shows_ended k (turned_away r l) w e = rw e (two_numbers_ended (bytes "(turned_away ") _ l)
+shows_ended k (turned_away r l) w e = rw e (two_numbers_ended (bytes "(turned-away ") _ l)
 shows_ended k (accepted h c) w (r, x, e) = rw e (shown_ended k h.lines r)
 
 pub prints_ended : (p : Program) (s w : List ℕ) → Prints p s w → Ended w

@@ -61,7 +61,7 @@ prints_one s t u = (printed_by (judged s 4096 t u 4096), refl, λ y e. e)
 -- a word or a refusal is ended by byte 10
 printed_ended : (v : Judgement (List Gate × List Gate)) → Ended (printed_by v)
 unfolding printed_by
-printed_ended (away r t l) = three_numbers_ended (bytes "(turned_away ") (number_of r) l t
+printed_ended (away r t l) = three_numbers_ended (bytes "(turned-away ") (number_of r) l t
 printed_ended (fine p) = (bytes "(accepted)", refl)
 
 -- the last byte that the program writes is 10
