@@ -34,7 +34,7 @@ abbrev pub shown : Output → ℕ → List Gate → List ℕ
 shown as_text n r = circuit_text n r
 shown as_count n r = form.quote (length r)
 
--- by what the text was judged to be: `(turned_away r l)`, or the success by the reduced list of its circuit
+-- by what the text was judged to be: `(turned-away r l)`, or the success by the reduced list of its circuit
 unfoldable pub PrintsBy : Output → Judged → List ℕ → Type 0
 PrintsBy o (turned_away r l) w = w ≡ form.turned_away (number_of r) l
 PrintsBy o (accepted h c) w = (r : List Gate) × Reduced h.lines c r × (w ≡ shown o h.lines r)

@@ -8,7 +8,7 @@ use Rattle.forms.specs.Forms.{text_turned_away}
 use Rattle.habits.specs.Habits.{Judgement, fine, away, Circuit}
 use Rattle.joins.specs.Join.{judged}
 
--- by what the texts were judged to be: `(turned_away r l t)`, or the circuit text of the reduced list of their join
+-- by what the texts were judged to be: `(turned-away r l t)`, or the circuit text of the reduced list of their join
 unfoldable pub PrintsBy : Judgement Circuit → List ℕ → Type 0
 PrintsBy (away r t l) w = w ≡ text_turned_away (number_of r) l t
 PrintsBy (fine c) w = (r : List Gate) × Reduced c.lines c.gates r × (w ≡ circuit_text c.lines r)

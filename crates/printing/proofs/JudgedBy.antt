@@ -43,8 +43,8 @@ few_controls_print = prints_as_now lowest.judge FewUnkept lowest_as_now
 pub keepless_prints : (p : Program) (s w : List ℕ) → Unchanged NoKeep (job_of p) s → now.Prints p s w ≡ Prints keepless.judge p s w
 keepless_prints = prints_as_now keepless.judge NoKeep keepless_as_now
 
--- when rule 7 was tried before rule 8: every text without a keep line but one that was turned away at a line that meets both rules, for which `(turned_away 7 l)` was
--- written, and `(turned_away 8 l)` is
+-- when rule 7 was tried before rule 8: every text without a keep line but one that was turned away at a line that meets both rules, for which `(turned-away 7 l)` was
+-- written, and `(turned-away 8 l)` is
 module _ (p : Program) (s : List ℕ) (u : Unkept (takes (job_of p)) s) where
   pub wide_first_print : ((r : Refusal) (l : ℕ) → judged_text wide_first.judge (takes (job_of p)) s 4096 ≡ turned_away r l → MeetsBothAt (takes (job_of p)) s l → ⊥) → (w : List ℕ) → now.Prints p s w ≡ Prints wide_first.judge p s w
   unfolding now.Prints Prints
