@@ -15,7 +15,7 @@ shown Less = bytes "(less)\n"
 shown Equal = bytes "(equal)\n"
 shown Greater = bytes "(greater)\n"
 
--- by what the texts were judged to be: `(turned_away r l t)`, or how the first circuit stands to the second
+-- by what the texts were judged to be: `(turned-away r l t)`, or how the first circuit stands to the second
 unfoldable pub PrintsBy : Judgement (Circuit × Circuit) → List ℕ → Type 0
 PrintsBy (away r t l) w = w ≡ text_turned_away (number_of r) l t
 PrintsBy (fine (c, d)) w = (k : Comparison) × Compares c.lines c.gates d.lines d.gates k × (w ≡ shown k)
