@@ -4,7 +4,7 @@
    to lead from one to another.
 
    The functions are in the archive target/staticlib/libcapi.a, which
-   `rt staticlib capi` proves and writes. `bin/shared-object ARCHIVE OUT` makes a
+   `./build capi` proves and writes. `bin/shared-object ARCHIVE OUT` makes a
    shared object of it, and `./install` installs both, as libyilgorza.a and
    libyilgorza.so. The code is for x86-64, with the calling convention of System V.
 

@@ -114,7 +114,7 @@ def _archive() -> Path:
     path = Path(os.environ.get("YILGORZA_ARCHIVE") or ROOT / ARCHIVE).absolute()
     if not path.is_file():
         raise SystemExit(
-            f"yilgorza: there is no archive {path}. `rt staticlib capi`, run in the "
+            f"yilgorza: there is no archive {path}. `./build capi`, run in the "
             f"repository, writes {ARCHIVE} there; the environment variable "
             "YILGORZA_ARCHIVE may name another, by its whole path."
         )

@@ -170,7 +170,7 @@ class Installed(unittest.TestCase):
             YILGORZA_ARCHIVE=str(nowhere),
         )
         self.assertIn(f"there is no archive {nowhere}", said)
-        self.assertIn("rt staticlib capi", said)
+        self.assertIn("./build capi", said)
         self.assertFalse((self.scratch / "target").exists())
 
     def test_a_file_that_is_no_archive(self):

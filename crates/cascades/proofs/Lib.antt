@@ -14,6 +14,7 @@ pub mod SignLines
 pub mod SignFlips
 pub mod Signs
 pub mod Lowest
+pub mod LowestSigned
 pub mod Renaming
 pub mod Placement
 pub mod Bases

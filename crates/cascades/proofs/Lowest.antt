@@ -108,7 +108,3 @@ module _ (n : ℕ) where
   few_controls (a ∷ b ∷ c ∷ []) t w b' h = rw (first_before (omega arith) w b')
   few_controls (a ∷ b ∷ c ∷ d ∷ []) t w b' h = rw (first_before (omega arith) w b')
   few_controls (a ∷ b ∷ c ∷ d ∷ e ∷ cs) t w b' h = absurd (omega arith)
-
-  pub few_controls± : (cs : List Control) (t : ℕ) → Expandable n [] (control_lines cs) t → Below n (control_lines cs) → length (control_lines cs) ≤ 4 → now_signed.expansion± n [] cs t ≡ expansion± n cs t
-  unfolding now_signed.expansion± expansion±
-  few_controls± cs t w b h = rw (few_controls (control_lines cs) t w b h)

@@ -14,10 +14,8 @@ use Rattle.sliptext.specs.Loaded as sliptext
 use Rattle.habits.specs.Habits.{away, told}
 use Rattle.habits.proofs.Yields.{yields_fine}
 use Rattle.loading.specs.Loaded as loading
-use Rattle.records.proofs.Walk_text_list_text_text_list.{Leads}
 use Rattle.outcomes.specs.Outcomes.{refused_two, succeeded_two}
 use Rattle.jobs.specs.Jobs.{judged_text}
-use Rattle.jobs.specs.Handing.{exit_of_two}
 use Rattle.jobs.proofs.Habits.{judged_told}
 use Rattle.jobs.proofs.Handed.{refused_two_hands, succeeded_two_hands}
 use Rattle.slips.specs.Slip.{judged, Slipped, Slip, Hands, check_slip, check_second, check_loaded, Accepts}
@@ -64,7 +62,3 @@ module _ (s t u codes codes' : List ℕ) (k j : ℕ) where
   accepted_hands h m all all' w =
       let y = yields_fine (yields_judged s k t u j) w.judged in
       succeeded_two_hands (λ k j. judged s k t u j) Slipped m m 0 k j codes codes' (gates (take m codes), gates (take m codes')) w.judged refl all all' w.renderable w.renderable' y.2 y.3
-
--- to the thin function above it
-pub leads : Leads Hands (λ s l t u m o l' m'. Slip s l t u m (exit_of_two o l' m'))
-leads = record { fits = λ s k t u j d h. (h.first.fits, h.second.fits); tells = λ s l t u m d h. h.tells l m refl refl }

@@ -1,12 +1,12 @@
 -- What is accepted does not depend on the lists lent, is linked, and composes; and some slip leads to the reduced list. Assumes nothing.
 use Prim.Native.Nat.{ℕ, ◌+◌, ◌≤◌}
-use mathlib.Core.Path.{◌≡◌, refl, sym, ap, ◌∙◌, subst}
+use mathlib.Core.Path.{◌≡◌, sym, ap, ◌∙◌}
 use mathlib.Core.List.{List, [], ◌∷◌, ◌++◌}
 use native.Mathlib.Omega.{arith}
 use lib.ListN.{length, replicate, length-replicate}
 use Rattle.gates.specs.declared.Gate.{Gate}
 use Rattle.gates.specs.declared.Gate.TheVariants.{Not}
-use Rattle.gates.specs.Circuit.{AllValid, Linked}
+use Rattle.gates.specs.Circuit.{AllValid}
 use Rattle.gates.specs.Reduced.{Reduced}
 use Rattle.text.specs.declared.Head.{Head}
 use Rattle.text.specs.declared.Kind.TheVariants as kind

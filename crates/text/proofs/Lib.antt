@@ -13,4 +13,5 @@ pub mod Keepless
 pub mod Unsigned
 pub mod Signless
 pub mod Lowest
+pub mod MeetsBoth
 pub mod WideFirst

@@ -10,7 +10,8 @@ use lib.ListN.{length, length-append}
 use Rattle.gates.specs.Every.{Every}
 use Rattle.gates.specs.declared.Gate.{Gate}
 use Rattle.cascades.proofs.SignLines.{length_control_lines}
-use Rattle.cascades.proofs.Lowest.{expansion±, count_before, few_controls±}
+use Rattle.cascades.proofs.Lowest.{expansion±, count_before}
+use Rattle.cascades.proofs.LowestSigned.{few_controls±}
 use Rattle.text.specs.declared.Kind.{Kind}
 use Rattle.text.specs.declared.Kind.TheVariants.{Cascade, Circuit}
 use Rattle.text.specs.declared.Head.{Head}

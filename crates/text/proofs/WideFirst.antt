@@ -31,6 +31,7 @@ use Rattle.text.proofs.Accepted.{away_accepted, breaks_sound, kept}
 use Rattle.text.proofs.Edges.{rule_number}
 use Rattle.text.proofs.JudgedBy.{Rules, judge_lines_by, judge_text_by, rules_now, gates_now, judge_lines_now, judge_text_now, Unkept, unkept_judged}
 use Rattle.text.proofs.Keepless.{passed_spareless}
+pub use Rattle.text.proofs.MeetsBoth.{MeetsBoth, MeetsBothAmong, MeetsBothAt}
 
 -- ---- the order of then
 
@@ -58,28 +59,6 @@ unfolding judge judge_text_by judge_lines_by rules exchanged rules_now now.rules
 sixteen_controls = refl
 
 -- ---- the lines at which an answer changed
-
--- the line passes rules 3 to 6, which read nothing of the lines before it, and its gate, "with 16 or more controls that names every line meets both
--- rules 7 and 8"
-pub record MeetsBoth (k : Kind) (n : ℕ) (f : Form) : Type 0 where
-  pub passes : first (take 4 (rules_now k n 0 [] f)) ≡ sound
-  pub wide : 16 ≤ length (controls f)
-  pub all_named : n ≡ length (controls f) + 1
-
--- so it is with line l: of the lines ls, which stand after line 1 and `before` others
-pub record MeetsBothAmong (k : Kind) (n before : ℕ) (ls : List Line) (l : ℕ) : Type 0 where
-  pub place : ℕ
-  pub form : Form
-  pub its_line : l ≡ before + place + 2
-  pub reads : get_or ls place unformed ≡ in_form form
-  pub meets : MeetsBoth k n form
-
--- and of the text s
-pub record MeetsBothAt (k : Kind) (s : List ℕ) (l : ℕ) : Type 0 where
-  pub number : ℕ
-  pub others : List Line
-  pub all_lines : read_all (cut s) ≡ in_form (lines number) ∷ others
-  pub among : MeetsBothAmong k number 0 others l
 
 -- a judgement of now and of then: the same, where it was given at no such line; or from 7 to 8, at the same line
 pub data Became (At : ℕ → Type 0) : Judged → Judged → Type 0 where

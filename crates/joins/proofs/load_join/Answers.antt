@@ -17,6 +17,5 @@ returns-in-Accepted c =
 
 pub returns-in-Refused : goal.returns-in-Refused
 returns-in-Refused c =
-    let x = c.load_text in
     let b = c.args in
-    first_refused b.first.now b.room b.second.now (rw c.in-Refused.is at x.ensures)
+    first_refused b.first.now b.room b.second.now (rw c.in-Refused.is at c.load_text.ensures)
