@@ -7,7 +7,7 @@ use Rattle.forms.specs.Forms.{text_turned_away}
 use Rattle.habits.specs.Habits.{Judgement, fine, away}
 use Rattle.slips.specs.Slip.{judged}
 
--- by what the texts were judged to be: `(turned_away r l t)`, or `(accepted)`
+-- by what the texts were judged to be: `(turned-away r l t)`, or `(accepted)`
 unfoldable pub printed_by : Judgement (List Gate × List Gate) → List ℕ
 printed_by (away r t l) = text_turned_away (number_of r) l t
 printed_by (fine p) = bytes "(accepted)\n"
