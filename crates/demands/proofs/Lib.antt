@@ -6,6 +6,7 @@ pub mod Before
 pub mod JudgedBy
 pub mod Signless
 pub mod Lowest
+pub mod Renumbered
 pub mod WideFirst
 pub mod Keepless
 pub mod Placement

@@ -23,12 +23,9 @@ use Rattle.jobs.specs.Jobs.{Job, takes, Output, as_text, as_count, wanted, Entry
 use Rattle.jobs.proofs.One.{says_one}
 use Rattle.demands.proofs.Demands.{Wrote, longer, holds, wrote, refusal_is}
 use Rattle.demands.proofs.JudgedBy.{judged_text, judged, Says}
+pub use Rattle.demands.proofs.Renumbered.{renumbered}
 
 -- ---- an exit of now and of then
-
--- the exit with another number
-abbrev pub renumbered : ℕ → Exit → Exit
-renumbered n x = record { number = n; line = x.line; gates = x.gates; bytes = x.bytes; list = x.list; area = x.area }
 
 -- the same, where it was given at no line that meets both rules; or 8 in place of 7
 pub data ExitBecame (j : Job) (e : Entry) : Exit → Exit → Type 0 where
