@@ -163,6 +163,13 @@ impl Files<'_> {
         (piped, piece): (&[u8], usize),
         what: impl FnOnce() -> String,
     ) {
+        // a file whose name is not text cannot be opened: the paths of Rattle's library are text
+        let named = given.iter().all(|name| name.to_str().is_some());
+        let expected = if named {
+            expected
+        } else {
+            Err("a name that is not text".to_string())
+        };
         let kind = format!("{program} {}", kind_of(&expected));
         *self.expected.entry(kind).or_default() += 1;
         let got = Written::by(&self.directory.join(program), given, piped, piece);
