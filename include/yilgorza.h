@@ -6,7 +6,7 @@
    The functions are in the archive target/staticlib/libcapi.a, which
    `./build capi` proves and writes. `bin/shared-object ARCHIVE OUT` makes a
    shared object of it, and `./install` installs both, as libyilgorza.a and
-   libyilgorza.so. The code is for x86-64, with the calling convention of System V.
+   libyilgorza.so. The code is for x86-64 from its version 2 on, with the calling convention of System V.
 
    Proved, for every call that keeps what is asked of its pointers and lengths,
    none of them null: it ends, and what is said below of outcome, lists, answer

@@ -163,17 +163,18 @@ impl Files<'_> {
         (piped, piece): (&[u8], usize),
         what: impl FnOnce() -> String,
     ) {
-        // a file whose name is not text cannot be opened: the paths of Rattle's library are text
-        let named = given.iter().all(|name| name.to_str().is_some());
-        let expected = if named {
-            expected
-        } else {
-            Err("a name that is not text".to_string())
-        };
         let kind = format!("{program} {}", kind_of(&expected));
         *self.expected.entry(kind).or_default() += 1;
         let got = Written::by(&self.directory.join(program), given, piped, piece);
+        // a file whose name is not text can't be opened, since the paths of Rattle's library
+        // are text: the complaint of the first such name stands in place of the answer
+        let unopened = given.iter().find(|name| name.to_str().is_none());
         let right = match (&got, &expected) {
+            (Ok(written), Ok(_)) if unopened.is_some() => {
+                let name = unopened.map(|name| name.as_encoded_bytes().escape_ascii());
+                let line = format!("{}: not text in UTF-8\n", name.unwrap());
+                written.is_complaint(line.as_bytes())
+            }
             (Ok(written), Ok(answer)) => written.answer().as_ref() == Ok(answer),
             (Ok(written), Err(_)) => written.is_one_line_of_complaint(),
             (Err(_), _) => false,

@@ -368,6 +368,11 @@ impl Written {
             && lines == 1
     }
 
+    /// Whether it is these bytes on standard error and nothing on standard output.
+    pub fn is_complaint(&self, line: &[u8]) -> bool {
+        self.is_one_line_of_complaint() && self.complaint == line
+    }
+
     pub fn shown(&self) -> String {
         format!(
             "{}, standard output {}, standard error {}",
