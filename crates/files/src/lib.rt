@@ -15,7 +15,7 @@ use std::{fs, io, str};
 const NAME_BYTES: usize = 4095;
 
 // How many bytes of a text stand at the front of the buffer; the text cannot be read; or the program's arguments do not name it.
-#[derive(Drop)]
+#[derive(Clone, Copy)]
 pub enum Input {
     Bytes(usize),
     Unreadable,
@@ -150,7 +150,7 @@ pub fn read_text<R: Env + Files + io::Input + Eprint>(rt: &R, buffer: &mut [u8])
 }
 
 // The same of the two texts of a program over two files.
-#[derive(Drop)]
+#[derive(Clone, Copy)]
 pub enum TwoInputs {
     Bytes(usize, usize),
     Unreadable,
@@ -190,7 +190,7 @@ pub fn read_two<R: Env + Files + Eprint>(rt: &R, first: &mut [u8], second: &mut 
 }
 
 // The same of the three texts of a program over three files.
-#[derive(Drop)]
+#[derive(Clone, Copy)]
 pub enum ThreeInputs {
     Bytes(usize, usize, usize),
     Unreadable,
