@@ -13,7 +13,8 @@ use Rattle.gates.specs.Code.{assembled, gate, gates, Code, AllCodes}
 use Rattle.gates.proofs.Codes.{code_not, code_code}
 use Rattle.gates.proofs.CodeLists.{length_gates, gates_append, gates_drop, code_gates, all_codes_append}
 use Rattle.records.specs.declared.Done.{Done}
-use Rattle.records.specs.declared.DoneText.{DoneText}
+use Rattle.records.specs.declared.TextOutcome.{TextOutcome}
+use Rattle.records.specs.declared.Outcome.{Outcome}
 use Rattle.records.specs.declared.DoneTwo.{DoneTwo}
 use Rattle.records.specs.declared.Filling.{Filling}
 use Rattle.records.specs.Records as R
@@ -85,7 +86,7 @@ module _ (number : ℕ) (f : Filling) (l : List ℕ) (w : Settles number (length
       go false false e = coded e
 
 -- what a job hands over, written into the list and the outcome
-pub told : {Says : List Gate → Exit → Type 0} {l : List ℕ} {d : Done} {o l' a' : List ℕ} → HandsOne Says (length l) d a'
+pub told : {Says : List Gate → Exit → Type 0} {l : List ℕ} {d : Done Outcome} {o l' a' : List ℕ} → HandsOne Says (length l) d a'
     → (l' ≡ stored d.filling l) × (o ≡ four d.outcome.number d.outcome.line d.outcome.gates d.outcome.bytes) → TellsOne Says l o l' a'
 told {l = l} {d} w over = rw (over.0, over.1) (record {
   answer = d.outcome;
@@ -95,7 +96,7 @@ told {l = l} {d} w over = rw (over.0, over.1) (record {
 })
 
 -- the same of a job over several texts and one list
-pub told_text : {Says : List Gate → habits.Exit → Type 0} {l : List ℕ} {d : DoneText} {o l' a' : List ℕ} → HandsText Says (length l) d a'
+pub told_text : {Says : List Gate → habits.Exit → Type 0} {l : List ℕ} {d : Done TextOutcome} {o l' a' : List ℕ} → HandsText Says (length l) d a'
     → (l' ≡ stored d.filling l) × (o ≡ four d.outcome.number d.outcome.line d.outcome.text d.outcome.count) → TellsText Says l o l' a'
 told_text {l = l} {d} w over = rw (over.0, over.1) (record {
   answer = d.outcome;

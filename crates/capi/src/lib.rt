@@ -1,7 +1,7 @@
 // The jobs as C functions, and one that reads a gate record: gates are numbers, and so are the parts of the outcome.
 #![tactic(auto)]
 
-ghost use Rattle.std.specs.Prelude.{◌≡◌, length};
+ghost use Rattle.std.specs.Prelude.{◌≡◌, List, ℕ, length};
 ghost use Rattle.records.specs.Records.{Fits};
 ghost use Rattle.storing.specs.Storing.{stored};
 ghost use Rattle.jobs.specs.Jobs.{mapping, reducing, writes};
@@ -12,53 +12,60 @@ ghost use Rattle.slips.specs.Slip.{Slip};
 ghost use Rattle.parts.specs.Parts.{RecordParts};
 ghost use Rattle.capi.specs.Exported.{four, TellsOne, Tells, TellsText, TellsTwo};
 
-use records::{Done, DoneText, DoneTwo, TextOutcome};
+use records::{Done, DoneTwo, Outcome, TextOutcome};
 use text::Kind;
 
-// Writes what a job over one text hands over into the list and the outcome that the caller lends.
-fn hand_over(d: Done, list: &mut [u16], outcome: &mut [u64; 4])
+// What a job returns, as the four numbers that C sees.
+trait Numbers: Copy {
+    ghost numbers: { Self → List ℕ };
+
+    fn numbers(self) -> [u64; 4]
+        ensures { result ≡ numbers self };
+}
+
+impl Numbers for Outcome {
+    ghost numbers = { λ o. four o.number o.line o.gates o.bytes };
+
+    fn numbers(self) -> [u64; 4] {
+        [
+            self.number as u64,
+            self.line as u64,
+            self.gates as u64,
+            self.bytes as u64,
+        ]
+    }
+}
+
+impl Numbers for TextOutcome {
+    ghost numbers = { λ o. four o.number o.line o.text o.count };
+
+    fn numbers(self) -> [u64; 4] {
+        [
+            self.number as u64,
+            self.line as u64,
+            self.text as u64,
+            self.count as u64,
+        ]
+    }
+}
+
+// Writes what a job over one list hands over into the list and the outcome that the caller lends.
+fn hand_over<O: Numbers>(d: Done<O>, list: &mut [u16], outcome: &mut [u64; 4])
     requires { Fits d.filling (length list.old) }
-    ensures { (list.new ≡ stored d.filling list.old) × (outcome.new ≡ four d.outcome.number d.outcome.line d.outcome.gates d.outcome.bytes) }
+    ensures { (list.new ≡ stored d.filling list.old) × (outcome.new ≡ O.numbers d.outcome) }
 {
     storing::store(d.filling, list);
-    let said = d.outcome;
-    *outcome = [
-        said.number as u64,
-        said.line as u64,
-        said.gates as u64,
-        said.bytes as u64,
-    ];
+    *outcome = d.outcome.numbers();
 }
 
-// Writes the outcome of a job over several texts.
-fn tell_outcome(said: TextOutcome, outcome: &mut [u64; 4])
-    ensures { outcome.new ≡ four said.number said.line said.text said.count }
-{
-    *outcome = [
-        said.number as u64,
-        said.line as u64,
-        said.text as u64,
-        said.count as u64,
-    ];
-}
-
-// The same as `hand_over` of a job over several texts and one list.
-fn hand_over_text(d: DoneText, list: &mut [u16], outcome: &mut [u64; 4])
-    requires { Fits d.filling (length list.old) }
-    ensures { (list.new ≡ stored d.filling list.old) × (outcome.new ≡ four d.outcome.number d.outcome.line d.outcome.text d.outcome.count) }
-{
-    storing::store(d.filling, list);
-    tell_outcome(d.outcome, outcome);
-}
-
-// And over two lists.
+// The same of a job over two lists.
 fn hand_over_two(d: DoneTwo, list: &mut [u16], list2: &mut [u16], outcome: &mut [u64; 4])
     requires { Fits d.first (length list.old) × Fits d.second (length list2.old) }
     ensures { (list.new ≡ stored d.first list.old) × (list2.new ≡ stored d.second list2.old) × (outcome.new ≡ four d.outcome.number d.outcome.line d.outcome.text d.outcome.count) }
 {
     storing::store(d.first, list);
     storing::store(d.second, list2);
-    tell_outcome(d.outcome, outcome);
+    *outcome = d.outcome.numbers();
 }
 
 // Does the job over a text of this kind.
@@ -121,7 +128,7 @@ pub extern "C" fn yilgorza_join(
     ensures { TellsText (λ l x. Join first.now l second.now answer.old x) list.old outcome.new list.new answer.new }
 {
     let d = joins::join_codes(first, list.len(), second, answer);
-    hand_over_text(d, list, outcome);
+    hand_over(d, list, outcome);
 }
 
 // Compares two circuit texts.

@@ -7,8 +7,8 @@ use native.Mathlib.Omega.{arith}
 use Rattle.text.specs.declared.Refusal.{Refusal}
 use Rattle.text.specs.Refusals.{number_of}
 use Rattle.text.specs.Text.{bytes}
-use Rattle.ordering.specs.declared.Comparison.{Comparison}
-use Rattle.ordering.specs.declared.Comparison.TheVariants.{Less, Equal, Greater}
+use Rattle.std.specs.declared.cmp.Ordering.{Ordering}
+use Rattle.std.specs.declared.cmp.Ordering.TheVariants.{Less, Equal, Greater}
 use Rattle.ordering.specs.Comparing.{count_of, Compares}
 use Rattle.ordering.proofs.Linked.{reduced_compares}
 use Rattle.forms.specs.Forms.{text_turned_away}
@@ -32,7 +32,7 @@ unfolding Compare
 tells s t h w = told (λ k j. judged s k t j) Compared textless h w
 
 -- how the circuits compare, by the count that is right
-compares : (c d : Circuit) (w : Answer) → Compared (c, d) w → (k : Comparison) × Compares c.lines c.gates d.lines d.gates k × (w.count ≡ count_of k)
+compares : (c d : Circuit) (w : Answer) → Compared (c, d) w → (k : Ordering) × Compares c.lines c.gates d.lines d.gates k × (w.count ≡ count_of k)
 unfolding Compared
 compares c d w (p, q, i, j, e) = (_, reduced_compares i j, ap (λ (y : Answer). y.count) e)
 
@@ -44,12 +44,12 @@ unfolding Prints PrintsBy
 prints_refusal s t {r} {u} {l} q = subst (λ (v : Judgement (Circuit × Circuit)). PrintsBy v (text_turned_away (number_of r) l u)) (sym q) refl
 
 -- the word of how two circuits compare
-prints_success : (s t : List ℕ) {c d : Circuit} {k : Comparison} → judged s 4096 t 4096 ≡ fine (c, d) → Compares c.lines c.gates d.lines d.gates k → Prints s t (shown k)
+prints_success : (s t : List ℕ) {c d : Circuit} {k : Ordering} → judged s 4096 t 4096 ≡ fine (c, d) → Compares c.lines c.gates d.lines d.gates k → Prints s t (shown k)
 unfolding Prints PrintsBy
 prints_success s t {k = k} q z = subst (λ (v : Judgement (Circuit × Circuit)). PrintsBy v (shown k)) (sym q) (k, z, refl)
 
 -- the word of the comparison that has the count n
-pub words : (k : Comparison) {n : ℕ} → n ≡ count_of k → (n ≡ 0 → shown k ≡ bytes "(less)\n") × (n ≡ 1 → shown k ≡ bytes "(equal)\n") × (n ≢ 0 → n ≢ 1 → shown k ≡ bytes "(greater)\n")
+pub words : (k : Ordering) {n : ℕ} → n ≡ count_of k → (n ≡ 0 → shown k ≡ bytes "(less)\n") × (n ≡ 1 → shown k ≡ bytes "(equal)\n") × (n ≢ 0 → n ≢ 1 → shown k ≡ bytes "(greater)\n")
 unfolding count_of
 words Less e = (λ _. refl, λ z. absurd (omega (arith, e, z)), λ z _. absurd (z e))
 words Equal e = (λ z. absurd (omega (arith, e, z)), λ _. refl, λ _ z. absurd (z e))
@@ -66,7 +66,7 @@ module _ (s t : List ℕ) (h : DoneTwo) (hands : Hands s 4096 t 4096 h) {a : Lis
       go (succeeded q w i j) = absurd (z i)
 
   -- the success
-  pub success_answers : h.outcome.number ≡ 0 → ((k : Comparison) → h.outcome.count ≡ count_of k → Fronts a n b (shown k)) → Answers (Prints s t) a n b
+  pub success_answers : h.outcome.number ≡ 0 → ((k : Ordering) → h.outcome.count ≡ count_of k → Fronts a n b (shown k)) → Answers (Prints s t) a n b
   success_answers z f = go (tells s t h hands)
     where
       go : Told (λ k j. judged s k t j) Compared textless h.outcome → Answers (Prints s t) a n b

@@ -5,8 +5,8 @@ use Prim.Native.Nat.{ℕ}
 use Rattle.text.specs.Refusals.{number_of}
 use Rattle.text.specs.Text.{bytes}
 use Rattle.gates.proofs.Theorem.{nf, nf_reduced}
-use Rattle.ordering.specs.declared.Comparison.{Comparison}
-use Rattle.ordering.specs.declared.Comparison.TheVariants.{Less, Equal, Greater}
+use Rattle.std.specs.declared.cmp.Ordering.{Ordering}
+use Rattle.std.specs.declared.cmp.Ordering.TheVariants.{Less, Equal, Greater}
 use Rattle.ordering.specs.Comparing.{compare_lists}
 use Rattle.ordering.proofs.Linked.{reduced_compares, compares_one}
 use Rattle.forms.specs.Forms.{text_turned_away}
@@ -49,7 +49,7 @@ prints_one s t = let y = only s t (judged s 4096 t 4096) refl in (printed_by (ju
 -- ---- ended by byte 10
 
 -- each word
-shown_ended : (k : Comparison) → Ended (shown k)
+shown_ended : (k : Ordering) → Ended (shown k)
 shown_ended Less = (bytes "(less)", refl)
 shown_ended Equal = (bytes "(equal)", refl)
 shown_ended Greater = (bytes "(greater)", refl)

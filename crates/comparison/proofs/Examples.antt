@@ -30,8 +30,8 @@ use Rattle.text.specs.Judging as J
 use Rattle.text.specs.Judging.{Judged, turned_away, accepted, belongs, most, any_from, rising, first, head_rules, rules, or_else, judge_lines, keep_rules, rest, judge_rest, judge_text, read_all, judge}
 use Rattle.text.proofs.Accepted.{judge_accepted, text_valid}
 use Rattle.text.proofs.Written.{judge_written}
-use Rattle.ordering.specs.declared.Comparison.{Comparison}
-use Rattle.ordering.specs.declared.Comparison.TheVariants.{Less}
+use Rattle.std.specs.declared.cmp.Ordering.{Ordering}
+use Rattle.std.specs.declared.cmp.Ordering.TheVariants.{Less}
 use Rattle.ordering.specs.Comparing.{count_of, then, compare_numbers, compare_gates, dictionary, compare_lists}
 use Rattle.ordering.proofs.Circuits.{fewer_lines, same_lines}
 use Rattle.habits.specs.Habits.{Exit}
@@ -111,7 +111,7 @@ least_holds : (n : ℕ) → Correct (least n)
 unfolding Correct count_of dictionary
 least_holds n c k r = let (x, y, e) = ran_compares r in go x e y.second (sym (rw (none_reduced y.first_reduced, same_lines n [] y.second) at y.compared))
   where
-    go : (x : Comparison) → k ≡ count_of x → (d : List Gate) → x ≡ dictionary compare_gates [] d → (k ≡ 0) ⊎ Linked n [] c
+    go : (x : Ordering) → k ≡ count_of x → (d : List Gate) → x ≡ dictionary compare_gates [] d → (k ≡ 0) ⊎ Linked n [] c
     go x e [] f = inr ((total_order.equal r).0 (e ∙ ap count_of f)).1
     go x e (g ∷ d) f = inl (e ∙ ap count_of f)
 

@@ -12,7 +12,8 @@ use Rattle.text.specs.declared.Refusal.{Refusal}
 use Rattle.text.specs.Judging.{turned_away, accepted}
 use Rattle.habits.specs.Habits.{fine, away, told, text_judged}
 use Rattle.loading.specs.declared.Loaded.{Loaded}
-use Rattle.loading.specs.declared.Loaded.TheVariants as loaded
+use Rattle.std.proofs.Common.{Result, Ok, Err}
+use Rattle.text.specs.declared.Refused.{Refused}
 use Rattle.jobs.specs.Jobs.{judged_text}
 use Rattle.outcomes.specs.Outcomes.{refused_two}
 use Rattle.jobs.specs.Handing.{AcceptsReduced, LoadsReduced}
@@ -37,11 +38,11 @@ module _ (s t codes codes' : List ℕ) (k j : ℕ) where
   first_refused r i q = refused_two_hands (λ k j. judged s k t j) Compared r 1 i k j codes codes' (rw (text_away 1 s k q))
 
   -- it is accepted
-  pub first_accepted : (g : Head) (m : ℕ) (x : Loaded) → length codes ≡ 4096 → length codes' ≡ 4096 → AcceptsReduced (judged_text kind.Circuit s k) codes g m → LoadsReduced (judged_text kind.Circuit t j) codes' x
+  pub first_accepted : (g : Head) (m : ℕ) (x : Result Loaded Refused) → length codes ≡ 4096 → length codes' ≡ 4096 → AcceptsReduced (judged_text kind.Circuit s k) codes g m → LoadsReduced (judged_text kind.Circuit t j) codes' x
       → Hands s k t j (compared_done g m x k j codes codes')
   unfolding judged Compared Compare comparison compared_done
-  first_accepted g m (loaded.Refused r i) all all' w q = refused_two_hands (λ k j. judged s k t j) Compared r 2 i k j codes codes' (rw (text_fine 1 s k w.judged, text_away 2 t j q))
-  first_accepted g m (loaded.Accepted h n) all all' w v =
-      succeeded_two_hands (λ k j. judged s k t j) Compared m n _ k j codes codes' (record { lines = g.lines; gates = w.circuit }, record { lines = h.lines; gates = v.circuit })
-      (rw (text_fine 1 s k w.judged, text_fine 2 t j v.judged)) (gates (take m codes), gates (take n codes'), w.reduced, v.reduced, refl)
+  first_accepted g m (Err e) all all' w q = refused_two_hands (λ k j. judged s k t j) Compared e.refusal 2 e.line k j codes codes' (rw (text_fine 1 s k w.judged, text_away 2 t j q))
+  first_accepted g m (Ok x) all all' w v =
+      succeeded_two_hands (λ k j. judged s k t j) Compared m x.gates _ k j codes codes' (record { lines = g.lines; gates = w.circuit }, record { lines = x.head.lines; gates = v.circuit })
+      (rw (text_fine 1 s k w.judged, text_fine 2 t j v.judged)) (gates (take m codes), gates (take x.gates codes'), w.reduced, v.reduced, refl)
       all all' w.renderable v.renderable (text_passed kind.Circuit s k w.judged).room (text_passed kind.Circuit t j v.judged).room

@@ -8,8 +8,8 @@ use Rattle.gates.specs.declared.Gate.{Gate}
 use Rattle.gates.specs.Circuit.{AllValid, Linked}
 use Rattle.text.specs.declared.Kind.TheVariants as kind
 use Rattle.text.proofs.Accepted.{judge_accepted, text_valid}
-use Rattle.ordering.specs.declared.Comparison.{Comparison}
-use Rattle.ordering.specs.declared.Comparison.TheVariants.{Less, Equal, Greater}
+use Rattle.std.specs.declared.cmp.Ordering.{Ordering}
+use Rattle.std.specs.declared.cmp.Ordering.TheVariants.{Less, Equal, Greater}
 use Rattle.ordering.specs.Comparing.{count_of, Compares, NotAfter}
 use Rattle.ordering.proofs.Linked as O
 use Rattle.ordering.proofs.Linked.{reduced_compares, compares_one, compares_count_turned, equal_linked, linked_compares, not_after_exactly_if}
@@ -19,13 +19,13 @@ use Rattle.comparison.proofs.Demands.{both_accepted}
 
 -- ---- counts
 
-counts_1 : (k : Comparison) → (count_of k ≡ 1) ↔ (k ≡ Equal)
+counts_1 : (k : Ordering) → (count_of k ≡ 1) ↔ (k ≡ Equal)
 unfolding count_of
 counts_1 Less = (λ e. absurd (omega (arith, e)), λ e. absurd (let z : ◌≡◌ {A = ℕ} 0 1 = cc in omega arith))
 counts_1 Equal = (λ _. refl, λ _. refl)
 counts_1 Greater = (λ e. absurd (omega (arith, e)), λ e. absurd (let z : ◌≡◌ {A = ℕ} 0 1 = cc in omega arith))
 
-counts_below : (k : Comparison) → (count_of k ≤ 1) ↔ (k ≢ Greater)
+counts_below : (k : Ordering) → (count_of k ≤ 1) ↔ (k ≢ Greater)
 unfolding count_of
 counts_below Less = (λ _ e. let z : ◌≡◌ {A = ℕ} 0 1 = cc in omega arith, λ _. omega arith)
 counts_below Equal = (λ _ e. let z : ◌≡◌ {A = ℕ} 0 1 = cc in omega arith, λ _. omega arith)
@@ -33,7 +33,7 @@ counts_below Greater = (λ l. absurd (omega (arith, l)), λ h. absurd (h refl))
 
 -- ---- a run says how the circuits compare
 
-pub ran_compares : {n m : ℕ} {c d : List Gate} {k : ℕ} → Ran n c m d k → (x : Comparison) × Compares n c m d x × (k ≡ count_of x)
+pub ran_compares : {n m : ℕ} {c d : List Gate} {k : ℕ} → Ran n c m d k → (x : Ordering) × Compares n c m d x × (k ≡ count_of x)
 ran_compares r =
     let (p, q, i, j, z) = both_accepted r.text_1 r.list_1 r.text_2 r.list_2 r.exit r.says r.accepts_1 r.accepts_2 in
     (_, reduced_compares i j, sym r.counted ∙ ap (λ (y : Exit). y.count) z)

@@ -6,11 +6,13 @@ use Rattle.gates.specs.Reduced.{Reduced}
 use Rattle.gates.specs.Code.{gates}
 use Rattle.text.specs.declared.Head.{Head}
 use Rattle.text.specs.declared.Kind.TheVariants as kind
-use Rattle.ordering.specs.declared.Comparison.{Comparison}
+use Rattle.std.specs.declared.cmp.Ordering.{Ordering}
 use Rattle.ordering.specs.Comparing.{count_of, compare_lists}
 use Rattle.habits.specs.Habits.{Judgement, fine, ◌then◌, Circuit, text_judged, Exit, Answer, Says}
 use Rattle.loading.specs.declared.Loaded.{Loaded}
-use Rattle.loading.specs.declared.Loaded.TheVariants as loaded
+use Rattle.std.specs.declared.result.Result.{Result}
+use Rattle.std.specs.declared.result.Result.TheVariants.{Ok, Err}
+use Rattle.text.specs.declared.Refused.{Refused}
 use Rattle.records.specs.declared.DoneTwo.{DoneTwo}
 use Rattle.outcomes.specs.Outcomes.{refused_two, succeeded_two}
 use Rattle.jobs.specs.Handing.{HandsTwo}
@@ -40,10 +42,10 @@ abbrev pub Hands : List ℕ → ℕ → List ℕ → ℕ → DoneTwo → Type 0
 Hands s k t j d = HandsTwo (λ l m x. Compare s l t m x) k j d
 
 -- how the lists of the first m and the first n codes compare, below their heads
-unfoldable pub comparison : Head → ℕ → List ℕ → Head → ℕ → List ℕ → Comparison
+unfoldable pub comparison : Head → ℕ → List ℕ → Head → ℕ → List ℕ → Ordering
 comparison g m codes h n codes' = compare_lists g.lines (gates (take m codes)) h.lines (gates (take n codes'))
 
 -- what is handed over where the first text is accepted, by the second's reduced list or its refusal
-unfoldable pub compared_done : Head → ℕ → Loaded → ℕ → ℕ → List ℕ → List ℕ → DoneTwo
-compared_done g m (loaded.Accepted h n) k j codes codes' = succeeded_two m n (count_of (comparison g m codes h n codes')) k j codes codes'
-compared_done g m (loaded.Refused r l) k j codes codes' = refused_two r 2 l k j codes codes'
+unfoldable pub compared_done : Head → ℕ → Result Loaded Refused → ℕ → ℕ → List ℕ → List ℕ → DoneTwo
+compared_done g m (Ok x) k j codes codes' = succeeded_two m x.gates (count_of (comparison g m codes x.head x.gates codes')) k j codes codes'
+compared_done g m (Err e) k j codes codes' = refused_two e.refusal 2 e.line k j codes codes'

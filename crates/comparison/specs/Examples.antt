@@ -5,8 +5,8 @@ use Rattle.gates.specs.declared.Gate.{Gate}
 use Rattle.gates.specs.declared.Gate.TheVariants.{Not}
 use Rattle.gates.specs.Circuit.{Linked}
 use Rattle.text.specs.Text.{circuit_text}
-use Rattle.ordering.specs.declared.Comparison.{Comparison}
-use Rattle.ordering.specs.declared.Comparison.TheVariants.{Less, Equal, Greater}
+use Rattle.std.specs.declared.cmp.Ordering.{Ordering}
+use Rattle.std.specs.declared.cmp.Ordering.TheVariants.{Less, Equal, Greater}
 use Rattle.ordering.specs.Comparing.{count_of}
 use Rattle.habits.specs.Habits.{Exit}
 use Rattle.demands.specs.Examples.{typed}
@@ -15,7 +15,7 @@ use Rattle.comparison.specs.Demands.{Ran}
 
 -- less, equal or greater; a refusal, its line and its text number
 pub data Answer : Type 0 where
-  says : Comparison → Answer
+  says : Ordering → Answer
   away : (number line text : ℕ) → Answer
 
 pub data Row : Type 0 where

@@ -10,56 +10,52 @@ ghost use Rattle.comparison.specs.Compare.{Compare, Hands, comparison, compared_
 
 use gates::Gate;
 use loading::Loaded;
-use ordering::Comparison;
-use records::{DoneTwo, TextOutcome};
-use text::{Head, Kind};
+use records::{DoneTwo, GATES, TextOutcome};
+use std::cmp::Ordering;
+use text::{Kind, Refused};
 
 // Loads a circuit text, where its gate list has `room` records, and reduces its circuit.
-fn load(text: &[u8], room: usize, codes: &mut [u16]) -> Loaded
+fn load(text: &[u8], room: usize, codes: &mut [u16]) -> Result<Loaded, Refused>
     requires { 4096 ≤ length codes.old }
     ensures { LoadsReduced (judged_text Circuit text.now room) codes.new result }
 {
     jobs::load_reduced(Kind::Circuit, text, room, codes)
 }
 
-// By number of lines first, then by the codes of the reduced lists.
+// By number of lines first, then by the codes of the reduced lists. Not by `then_with`: an answer could not name what its closure ensures.
 fn compare_lists(
-    first: Head,
-    m: usize,
-    codes: &[u16; 4096],
-    second: Head,
-    n: usize,
-    codes2: &[u16; 4096],
-) -> Comparison
-    requires { Renderable first m codes.now × Renderable second n codes2.now }
-    ensures { result ≡ comparison first m codes.now second n codes2.now }
+    first: Loaded,
+    codes: &[u16; GATES],
+    second: Loaded,
+    codes2: &[u16; GATES],
+) -> Ordering
+    requires { Renderable first.head first.gates codes.now × Renderable second.head second.gates codes2.now }
+    ensures { result ≡ comparison first.head first.gates codes.now second.head second.gates codes2.now }
 {
-    match ordering::numbers(first.lines as usize, second.lines as usize) {
-        Comparison::Less => Comparison::Less,
-        Comparison::Equal => ordering::codes(codes, m, codes2, n),
-        Comparison::Greater => Comparison::Greater,
+    match first.head.lines.cmp(&second.head.lines) {
+        Ordering::Equal => ordering::codes(&codes[..first.gates], &codes2[..second.gates]),
+        unequal => unequal,
     }
 }
 
 // The answer where the first text is accepted: by the second's reduced list or its refusal.
 fn answer_second(
-    first: Head,
-    m: usize,
-    second: Loaded,
+    first: Loaded,
+    second: Result<Loaded, Refused>,
     room: usize,
     room2: usize,
-    codes: [u16; 4096],
-    codes2: [u16; 4096],
+    codes: [u16; GATES],
+    codes2: [u16; GATES],
 ) -> DoneTwo
-    requires { Renderable first m codes × Answerable second codes2 }
-    ensures { result ≡ compared_done first m second room room2 codes codes2 }
+    requires { Renderable first.head first.gates codes × Answerable second codes2 }
+    ensures { result ≡ compared_done first.head first.gates second room room2 codes codes2 }
 {
     match second {
-        Loaded::Accepted(head, n) => {
-            let c = compare_lists(first, m, &codes, head, n, &codes2);
-            outcomes::succeed_two(m, n, ordering::count(c), room, room2, codes, codes2)
+        Ok(second) => {
+            let c = ordering::count(compare_lists(first, &codes, second, &codes2));
+            outcomes::succeed_two(first.gates, second.gates, c, room, room2, codes, codes2)
         }
-        Loaded::Refused(r, line) => outcomes::refuse_two(r, 2, line, room, room2, codes, codes2),
+        Err(refused) => outcomes::refuse_two(refused.in_text(2), room, room2, codes, codes2),
     }
 }
 
@@ -67,14 +63,14 @@ fn answer_second(
 pub fn compare_codes(first: &[u8], room: usize, second: &[u8], room2: usize) -> DoneTwo
     ensures { Hands first.now room second.now room2 result }
 {
-    let mut codes = [0u16; 4096];
-    let mut codes2 = [0u16; 4096];
+    let mut codes = [0u16; GATES];
+    let mut codes2 = [0u16; GATES];
     match load(first, room, &mut codes) {
-        Loaded::Accepted(head, m) => {
+        Ok(reduced) => {
             let loaded = load(second, room2, &mut codes2);
-            answer_second(head, m, loaded, room, room2, codes, codes2)
+            answer_second(reduced, loaded, room, room2, codes, codes2)
         }
-        Loaded::Refused(r, line) => outcomes::refuse_two(r, 1, line, room, room2, codes, codes2),
+        Err(refused) => outcomes::refuse_two(refused.in_text(1), room, room2, codes, codes2),
     }
 }
 

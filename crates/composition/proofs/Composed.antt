@@ -1,11 +1,8 @@
 -- The inverse on numbers of gates is the inverse of the circuit. Assumes nothing.
-use mathlib.Core.Path.{◌≡◌, refl, ◌∙◌}
-use mathlib.Core.List.{List, [], ◌∷◌, ◌++◌}
-use Prim.Native.Nat.{ℕ, suc, ◌-◌, ◌≤◌, ◌<◌}
-use native.Mathlib.Omega.{arith}
-use native.Mathlib.Decide.{dec_lt}
-use lib.ListN.{length, get_or, length-append, get_or-append}
-use lib.Seq.{get_or_at}
+use mathlib.Core.Path.{◌≡◌, refl, ap, ◌∙◌}
+use mathlib.Core.List.{List, [], ◌∷◌, ◌++◌, map, reverse}
+use Prim.Native.Nat.{ℕ, ◌≤◌}
+use Rattle.std.proofs.lemmas.List.{reverse-append}
 use Rattle.gates.specs.Inverse.{inverse, inverted}
 use Rattle.gates.specs.Code.{code, gate, gates, AllCodes}
 use Rattle.gates.proofs.Inverses.{valid_inverted}
@@ -29,27 +26,14 @@ module _ (n : ℕ) where
   all_codes_inverse (k ∷ l) b w =
       all_codes_append n (inverse_codes l) (code (inverted (gate k)) ∷ []) (all_codes_inverse l b w.1) (code_code b (valid_inverted w.0.valid), tt)
 
--- ---- place by place
+-- ---- in two steps
 
 -- the number of the inverted gate
 abbrev pub inverse_code : ℕ → ℕ
 inverse_code k = code (inverted (gate k))
 
-pub length_inverse_codes : (l : List ℕ) → length (inverse_codes l) ≡ length l
+-- v and vp exchanged in each, then reversed
+pub inverse_codes_reversed : (l : List ℕ) → reverse (map inverse_code l) ≡ inverse_codes l
 unfolding inverse_codes
-length_inverse_codes [] = refl
-length_inverse_codes (k ∷ l) = length-append (inverse_codes l) (inverse_code k ∷ []) ∙ omega (arith, length_inverse_codes l)
-
--- the number x places from the front is made of the one x places from the end
-pub getD_inverse_codes : (l : List ℕ) (x : ℕ) → x < length l → get_or (inverse_codes l) x 0 ≡ inverse_code (get_or l (length l - 1 - x) 0)
-unfolding inverse_codes
-getD_inverse_codes [] x b = absurd (omega arith)
-getD_inverse_codes (k ∷ l) x b = go (λ h. getD_inverse_codes l x h) (dec_lt x (length l))
-  where
-    go : (x < length l → get_or (inverse_codes l) x 0 ≡ inverse_code (get_or l (length l - 1 - x) 0)) → Dec (x < length l) → get_or (inverse_codes l ++ (inverse_code k ∷ [])) x 0 ≡ inverse_code (get_or (k ∷ l) (suc (length l) - 1 - x) 0)
-    go ih (yes h) =
-        let e : suc (length l) - 1 - x ≡ suc (length l - 1 - x) = omega arith in
-        get_or-append (inverse_codes l) (inverse_code k ∷ []) 0 x (rw (length_inverse_codes l) h) ∙ ih h ∙ rw e
-    go ih (no h) =
-        let e : suc (length l) - 1 - x ≡ 0 = omega arith in
-        get_or_at (inverse_codes l) (inverse_code k) [] 0 x (length_inverse_codes l ∙ omega arith) ∙ rw e
+inverse_codes_reversed [] = refl
+inverse_codes_reversed (k ∷ l) = reverse-append (inverse_code k ∷ []) (map inverse_code l) ∙ ap (λ m. m ++ (inverse_code k ∷ [])) (inverse_codes_reversed l)

@@ -1,3 +1,2 @@
 -- The laws of this crate, in reading order.
 pub mod Composed
-pub mod InPlace

@@ -12,7 +12,7 @@ use Rattle.cascades.proofs.Spare.{distinct_length}
 use Rattle.cascades.proofs.Spared.{spared_m0, spared_m1, mct_spared}
 use Rattle.cascades.proofs.Counts.{length_joined}
 use Rattle.cascades.proofs.Halves.{below_more}
-use Rattle.spares.specs.declared.Spares.{Spares}
+use Rattle.spares.specs.declared.spare_lines.Spares.{Spares}
 use Rattle.spares.specs.Spares.{listed, Lists}
 use Rattle.expansion.specs.Spares.{SparesOf}
 
@@ -47,41 +47,41 @@ expand_joined sp (a ∷ b ∷ c ∷ cs) t h =
     (any_bound (length l) (suc (length (take half l))) (m0_spares sp l t) (take half l) s (omega arith) (omega arith))
     (any_bound (length l) (suc (length (drop half l))) (m1_spares sp l) (drop half l) s (omega arith) (omega arith))
 
--- ---- a gate and its smaller gates, with the first h controls and with the others, on its first spare s and with spares p and q
+-- ---- a gate and its smaller gates, with its controls x and with its controls y, on its first spare s and with spares p and q
 
 -- there is a spare, with room for all controls behind the spares
 pub spare_there : {cs : List ℕ} {t : ℕ} {s : Spares} → length s.lines ≡ 32 → 3 ≤ length cs → SparesOf cs t s → (s.first < s.end) × (s.end + length cs < 32)
 unfolding listed
 spare_there {s = s} e k w = (omega (arith, w.spared.enough k, w.room, length-slice s.first s.end s.lines (omega (arith, w.room))), w.room)
 
-pub record Split (sp : List ℕ) (l : List ℕ) (t s h : ℕ) (p q : Spares) : Type 0 where
-  pub first : SparesOf (take h l) s p
-  pub second : SparesOf (drop h l) s q
-  pub fewer : length (take h l) < length l
-  pub fewer_second : length (drop h l) < length l
-  pub within : h ≤ length l
-  pub whole : expand_with sp l t ≡ joined s t (expand_with (listed p) (take h l) s) (expand_with (listed q) (drop h l) s)
-  pub room : length (expand_with sp l t) ≡ 4 + 2 * (length (expand_with (listed p) (take h l) s) + length (expand_with (listed q) (drop h l) s))
+pub record Split (sp l x y : List ℕ) (t s : ℕ) (p q : Spares) : Type 0 where
+  pub first : SparesOf x s p
+  pub second : SparesOf y s q
+  pub fewer : length x < length l
+  pub fewer_second : length y < length l
+  pub whole : expand_with sp l t ≡ joined s t (expand_with (listed p) x s) (expand_with (listed q) y s)
+  pub room : length (expand_with sp l t) ≡ 4 + 2 * (length (expand_with (listed p) x s) + length (expand_with (listed q) y s))
 
-pub split : (a p q : Spares) (l : List ℕ) (t s h : ℕ) → length a.lines ≡ 32 → 3 ≤ length l → SparesOf l t a → h ≡ length l / 2 → s ≡ first_spare (listed a)
-    → Lists p a.first (a.end + length (drop h l)) (t ∷ (drop 1 (listed a) ++ drop h l))
-    → Lists q (a.first + 1) (a.end + length (take h l)) (drop 1 (listed a) ++ take h l)
-    → Split (listed a) l t s h p q
-split a p q l t s h e k w h-is s-is lp lq =
-    let x = length-take h l in
-    let y = length-drop h l in
+-- x are the first half of the controls, and y the others
+pub split : {a p q : Spares} {l x y sp : List ℕ} {t h : ℕ} → length a.lines ≡ 32 → 3 ≤ length l → SparesOf l t a → h ≡ length l / 2 → x ≡ take h l → y ≡ drop h l → sp ≡ listed a
+    → Lists p a.first (a.end + length y) (t ∷ (drop 1 (listed a) ++ y))
+    → Lists q (a.first + 1) (a.end + length x) (drop 1 (listed a) ++ x)
+    → Split (listed a) l x y t (first_spare sp) p q
+split {a} {p} {q} {l} {x} {y} {sp} {t} {h} e k w h-is x-is y-is sp-is lp lq =
+    let long = ap length x-is ∙ length-take h l in
+    let rest = ap length y-is ∙ length-drop h l in
     let there = spare_there e k w in
-    let p_are : listed p ≡ m0_spares (listed a) l t = lp.are ∙ rw h-is in
-    let q_are : listed q ≡ m1_spares (listed a) l = lq.are ∙ rw h-is in
-    let whole : expand_with (listed a) l t ≡ joined s t (expand_with (listed p) (take h l) s) (expand_with (listed q) (drop h l) s) = rw (p_are, q_are, s-is, h-is) (expand_joined (listed a) l t k) in
+    let s = first_spare sp in
+    let p_are : listed p ≡ m0_spares (listed a) l t = lp.are ∙ rw (y-is, h-is) in
+    let q_are : listed q ≡ m1_spares (listed a) l = lq.are ∙ rw (x-is, h-is) in
+    let whole : expand_with (listed a) l t ≡ joined s t (expand_with (listed p) x s) (expand_with (listed q) y s) = rw (p_are, q_are, sp-is, x-is, y-is, h-is) (expand_joined (listed a) l t k) in
     record {
-      first = record { spared = rw (p_are, s-is, h-is) (spared_m0 32 k w.spared); in_order = omega (arith, lp.starts, lp.ends, w.in_order); room = omega (arith, lp.ends, w.room) };
-      second = record { spared = rw (q_are, s-is, h-is) (spared_m1 32 k w.spared); in_order = omega (arith, lq.starts, lq.ends, there.0); room = omega (arith, lq.ends, w.room) };
+      first = record { spared = rw (p_are, sp-is, x-is, h-is) (spared_m0 32 k w.spared); room = omega (arith, lp.ends, w.room) };
+      second = record { spared = rw (q_are, sp-is, y-is, h-is) (spared_m1 32 k w.spared); room = omega (arith, lq.ends, w.room) };
       fewer = omega arith;
       fewer_second = omega arith;
-      within = omega arith;
       whole = whole;
-      room = ap length whole ∙ length_joined s t (expand_with (listed p) (take h l) s) (expand_with (listed q) (drop h l) s);
+      room = ap length whole ∙ length_joined s t (expand_with (listed p) x s) (expand_with (listed q) y s);
     }
 
 -- ---- the spares of an mct gate
@@ -92,6 +92,5 @@ mct_spares_of n kept cs t s few w b l =
     let long = distinct_length n (t ∷ (cs ++ mct_spares n kept cs t)) p.apart p.below in
     record {
       spared = rw l.are (record { apart = p.apart; below = below_more n 32 (t ∷ (cs ++ mct_spares n kept cs t)) few p.below; enough = p.enough });
-      in_order = omega (arith, l.starts);
       room = omega (arith, l.ends, long, length-append cs (mct_spares n kept cs t));
     }

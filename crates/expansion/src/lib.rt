@@ -5,7 +5,7 @@ ghost use Rattle.std.specs.Prelude.{◌≡◌, ◌∷◌, [], ◌++◌, ◌+◌,
 ghost use Rattle.std.proofs.Math.Seq.{slice};
 ghost use Rattle.gates.specs.Code.{AllCodes, gates as gates_of};
 ghost use Rattle.gates.specs.Inverse.{inverse};
-ghost use Rattle.cascades.specs.Expansion.{v, v⁺, cn, ◌⨾◌, first_spare as first_of, expand_with, expansion, Expandable, counts};
+ghost use Rattle.cascades.specs.Expansion.{v, v⁺, cn, ◌⨾◌, expand_with, expansion, Expandable, counts};
 ghost use Rattle.cascades.specs.LineSets.{unpacked};
 ghost use Rattle.cascades.specs.Signs.{nots as nots_on, between_nots};
 ghost use Rattle.cascades.specs.Cascade.{Below};
@@ -21,82 +21,30 @@ const COUNTS: [u16; 16] = [
     1, 1, 5, 16, 24, 46, 68, 84, 100, 144, 188, 232, 276, 308, 340, 372,
 ];
 
-fn wide(x: u16) -> usize
-    ensures { result ≡ x }
-{
-    x as usize
-}
-
 // How many gates the expansion of a gate with k controls has.
 pub fn count(k: usize) -> usize
     requires { k ≤ 15 }
     ensures { result ≡ get_or counts k 0 }
 {
-    wide(COUNTS[k])
-}
-
-// The spares with more lines behind them.
-fn followed(spares: Spares, more: &[u8]) -> Spares
-    requires { (spares.first ≤ spares.end) × (spares.end + length more.now ≤ 32) }
-    ensures { Lists result spares.first (spares.end + length more.now) (listed spares ++ more.now) }
-{
-    let end = spares.end;
-    let mut lines = spares.lines;
-    let mut i = 0;
-    while i < more.len() {
-        lines[end + i] = more[i];
-        i += 1;
-    }
-    Spares {
-        lines,
-        first: spares.first,
-        end: end + more.len(),
-    }
+    usize::from(COUNTS[k])
 }
 
 // The spares of M0: t in the place of s, the remaining spares, then C1.
-fn m0_spares(spares: Spares, target: u8, c1: &[u8]) -> Spares
+fn m0_spares(mut spares: Spares, target: u8, c1: &[u8]) -> Spares
     requires { (spares.first < spares.end) × (spares.end + length c1.now ≤ 32) }
     ensures { Lists result spares.first (spares.end + length c1.now) (target ∷ (drop 1 (listed spares) ++ c1.now)) }
 {
-    let first = spares.first;
-    let mut lines = spares.lines;
-    lines[first] = target;
-    followed(
-        Spares {
-            lines,
-            first,
-            end: spares.end,
-        },
-        c1,
-    )
+    spares.lines[spares.first] = target;
+    spares.followed(c1)
 }
 
 // The spares of M1: the remaining spares, then C0.
-fn m1_spares(spares: Spares, c0: &[u8]) -> Spares
+fn m1_spares(mut spares: Spares, c0: &[u8]) -> Spares
     requires { (spares.first < spares.end) × (spares.end + length c0.now ≤ 32) }
     ensures { Lists result (spares.first + 1) (spares.end + length c0.now) (drop 1 (listed spares) ++ c0.now) }
 {
-    let first = spares.first + 1;
-    let lines = spares.lines;
-    followed(
-        Spares {
-            lines,
-            first,
-            end: spares.end,
-        },
-        c0,
-    )
-}
-
-// Each gate takes the first of its spares as s.
-fn first_spare(spares: Spares) -> u8
-    requires { (spares.first < spares.end) × (spares.end ≤ 32) }
-    ensures { result ≡ first_of (listed spares) }
-{
-    let first = spares.first;
-    let lines = spares.lines;
-    lines[first]
+    spares.first += 1;
+    spares.followed(c0)
 }
 
 // Writes one gate, and says where the next one goes.
@@ -114,10 +62,8 @@ fn invert(list: &mut [u16], from: usize, to: usize, at: usize) -> usize
     requires all_codes { AllCodes 32 (slice from to list.old) }
     ensures { Written (inverse (gates_of (slice from to list.old))) list.old at list.new result }
 {
-    let mut i = to;
     let mut next = at;
-    while from < i {
-        i -= 1;
+    for i in (from..to).rev() {
         list[next] = gates::inverted(list[i]);
         next += 1;
     }
@@ -142,14 +88,11 @@ fn expand_few(controls: &[u8], target: u8, list: &mut [u16], at: usize) -> usize
     requires target_in_bounds { at + length (expand_with [] controls.now target) ≤ length list.old }
     ensures { Written (expand_with [] controls.now target) list.old at list.new result }
 {
-    let k = controls.len();
-    if k == 0 {
-        return put(list, at, Gate::Not(target));
+    match controls {
+        [] => put(list, at, Gate::Not(target)),
+        [a] => put(list, at, Gate::Powered(2, *a, target)),
+        [a, b, ..] => toffoli(list, at, *a, *b, target),
     }
-    if k == 1 {
-        return put(list, at, Gate::Powered(2, controls[0], target));
-    }
-    toffoli(list, at, controls[0], controls[1], target)
 }
 
 // C0 is the first floor(k/2) controls.
@@ -170,14 +113,14 @@ fn expand_with(spares: Spares, controls: &[u8], target: u8, list: &mut [u16], at
     if k < 3 {
         return expand_few(controls, target, list, at);
     }
-    let h = half(k);
-    let s = first_spare(spares);
-    let for_m0 = m0_spares(spares, target, &controls[h..]);
-    let for_m1 = m1_spares(spares, &controls[..h]);
+    let (c0, c1) = controls.split_at(half(k));
+    let s = spares.as_slice()[0];
+    let for_m0 = m0_spares(spares, target, c1);
+    let for_m1 = m1_spares(spares, c0);
     let m0 = put(list, at, Gate::Powered(1, s, target));
-    let m0_end = expand_with(for_m0, &controls[..h], s, list, m0);
+    let m0_end = expand_with(for_m0, c0, s, list, m0);
     let m1 = put(list, m0_end, Gate::Powered(3, s, target));
-    let m1_end = expand_with(for_m1, &controls[h..], s, list, m1);
+    let m1_end = expand_with(for_m1, c1, s, list, m1);
     let m2 = put(list, m1_end, Gate::Powered(1, s, target));
     let m2_end = invert(list, m0, m0_end, m2);
     let m3 = put(list, m2_end, Gate::Powered(3, s, target));
@@ -216,11 +159,9 @@ fn nots(lines: &[u8], list: &mut [u16], at: usize) -> usize
     requires { at + length lines.now ≤ length list.old }
     ensures { Written (nots_on lines.now) list.old at list.new result }
 {
-    let mut i = 0;
     let mut next = at;
-    while i < lines.len() {
-        next = put(list, next, Gate::Not(lines[i]));
-        i += 1;
+    for line in lines {
+        next = put(list, next, Gate::Not(*line));
     }
     next
 }

@@ -1,8 +1,9 @@
 // How a program reads its texts, from the files that its arguments name or from standard input, and writes.
 #![tactic(auto)]
 
-ghost use Rattle.std.specs.Prelude.{◌≡◌, ◌<◌, ◌≤◌, length, take, slice_range, IfOk};
+ghost use Rattle.std.specs.Prelude.{◌≡◌, ◌^◌, ◌<◌, ◌≤◌, length, take, slice_range, IfOk};
 ghost use Rattle.std.specs.Io.KnownBytes.{Consumes, IsAtEnd};
+ghost use Rattle.files.specs.declared.Unread.TheVariants.{Misused};
 ghost use Rattle.files.specs.Input.{Within, WithinTwo, WithinThree};
 
 use std::env::FillError;
@@ -14,15 +15,24 @@ use std::{fs, io, str};
 // How many bytes the name of a file may have.
 const NAME_BYTES: usize = 4095;
 
-// How many bytes of a text stand at the front of the buffer; the text cannot be read; or the program's arguments do not name it.
-#[derive(Clone, Copy)]
-pub enum Input {
-    Bytes(usize),
+// Why a program has not its texts: one cannot be read, which was said to standard error, or the program's arguments do not name them.
+#[derive(Clone, Copy, Debug, PartialEq, Eq)]
+pub enum Unread {
     Unreadable,
     Misused,
 }
 
+// An argument that is missing or too long names no file.
+impl From<FillError> for Unread {
+    ghost from_gives = { λ _ e. e ≡ Misused };
+
+    fn from(_: FillError) -> Unread {
+        Unread::Misused
+    }
+}
+
 // One read, behind the n bytes that the buffer holds, and how many it then holds. The programs set no handler for signals, so nothing interrupts it.
+#[tactic(auto, using(crate::proofs::Read::read_part))]
 fn read_more<F: Read>(file: &mut F, buffer: &mut [u8], n: usize) -> io::Result<usize>
     requires { n ≤ length buffer.old }
     ensures within { IfOk result (λ m. (n ≤ m) × (m ≤ length buffer.old)) }
@@ -61,16 +71,13 @@ pub fn tell(rt: &impl Eprint, line: &[u8]) {
 }
 
 // Reads standard input, or says that it cannot.
-fn read_standard<R: io::Input + Eprint>(rt: &R, buffer: &mut [u8]) -> Input
+fn read_standard<R: io::Input + Eprint>(rt: &R, buffer: &mut [u8]) -> Result<usize, Unread>
     ensures { Within 0 (length buffer.new) result }
 {
-    match read_input(&mut rt.reader(), buffer) {
-        Ok(n) => Input::Bytes(n),
-        Err(_) => {
-            tell(rt, b"standard input cannot be read\n");
-            Input::Unreadable
-        }
-    }
+    read_input(&mut rt.reader(), buffer).map_err(|_| {
+        tell(rt, b"standard input cannot be read\n");
+        Unread::Unreadable
+    })
 }
 
 // The words of an error, without the system's number behind them.
@@ -97,36 +104,33 @@ fn read_path<R: Files>(rt: &R, path: &str, buffer: &mut [u8]) -> io::Result<usiz
 }
 
 // Reads the file of this name, or says why it cannot.
-fn read_file<R: Files + Eprint>(rt: &R, path: &[u8], buffer: &mut [u8]) -> Input
+fn read_file<R: Files + Eprint>(rt: &R, path: &[u8], buffer: &mut [u8]) -> Result<usize, Unread>
     ensures { Within 0 (length buffer.new) result }
 {
     let Ok(path) = str::from_utf8(path) else {
         let name = path.escape_ascii();
         let _ = eprintln!(rt; "{name}: not text in UTF-8");
-        return Input::Unreadable;
+        return Err(Unread::Unreadable);
     };
-    match read_path(rt, path, buffer) {
-        Ok(n) => Input::Bytes(n),
-        Err(error) => {
-            tell_why(rt, path, error);
-            Input::Unreadable
-        }
-    }
+    read_path(rt, path, buffer).map_err(|error| {
+        tell_why(rt, path, error);
+        Unread::Unreadable
+    })
 }
 
-// Reads the file that argument i names. One that is missing, empty, too long or begins with `-` names none.
-pub fn read_argument<R: Env + Files + Eprint>(rt: &R, i: usize, buffer: &mut [u8]) -> Input
+// Reads the file that argument i names, and gives how many bytes of it stand at the front of the buffer. An argument that is missing, empty, too
+// long or begins with `-` names none.
+pub fn read_argument<R: Env + Files + Eprint>(
+    rt: &R,
+    i: usize,
+    buffer: &mut [u8],
+) -> Result<usize, Unread>
     ensures { Within 0 (length buffer.new) result }
 {
     let mut name = [0u8; NAME_BYTES];
-    let Ok(n) = rt.arg(i, &mut name) else {
-        return Input::Misused;
-    };
-    if n == 0 {
-        return Input::Misused;
-    }
-    if name[0] == b'-' {
-        return Input::Misused;
+    let n = rt.arg(i, &mut name)?;
+    if n == 0 || name[0] == b'-' {
+        return Err(Unread::Misused);
     }
     read_file(rt, &name[..n], buffer)
 }
@@ -136,12 +140,25 @@ fn has_argument(rt: &impl Env, i: usize) -> bool {
     !matches!(rt.arg(i, &mut []), Err(FillError::NotPresent))
 }
 
+// Refuses a program that has fewer arguments than `count`, or more.
+fn need_arguments(rt: &impl Env, count: usize) -> Result<(), Unread>
+    requires { count < 2 ^ 16 }
+{
+    if !has_argument(rt, count) || has_argument(rt, count + 1) {
+        return Err(Unread::Misused);
+    }
+    Ok(())
+}
+
 // Reads the text of a program over one text: the file that its argument names, or standard input where it has none.
-pub fn read_text<R: Env + Files + io::Input + Eprint>(rt: &R, buffer: &mut [u8]) -> Input
+pub fn read_text<R: Env + Files + io::Input + Eprint>(
+    rt: &R,
+    buffer: &mut [u8],
+) -> Result<usize, Unread>
     ensures { Within 0 (length buffer.new) result }
 {
     if has_argument(rt, 2) {
-        return Input::Misused;
+        return Err(Unread::Misused);
     }
     if has_argument(rt, 1) {
         return read_argument(rt, 1, buffer);
@@ -149,63 +166,20 @@ pub fn read_text<R: Env + Files + io::Input + Eprint>(rt: &R, buffer: &mut [u8])
     read_standard(rt, buffer)
 }
 
-// The same of the two texts of a program over two files.
-#[derive(Clone, Copy)]
-pub enum TwoInputs {
-    Bytes(usize, usize),
-    Unreadable,
-    Misused,
-}
+// Two texts and three have readers of their own: the borrow checker does not cover an array of slices whose length is a const parameter.
 
-// Reads the second file, behind a first text of m bytes.
-fn read_second<R: Env + Files + Eprint>(rt: &R, m: usize, second: &mut [u8]) -> TwoInputs
-    ensures { WithinTwo m (length second.new) result }
-{
-    match read_argument(rt, 2, second) {
-        Input::Bytes(n) => TwoInputs::Bytes(m, n),
-        Input::Unreadable => TwoInputs::Unreadable,
-        Input::Misused => TwoInputs::Misused,
-    }
-}
-
-// Reads the files that the first two arguments name. Nothing is read of the second text where the first cannot be read.
-fn read_both<R: Env + Files + Eprint>(rt: &R, first: &mut [u8], second: &mut [u8]) -> TwoInputs
+// Reads the texts of a program over two files: those that its two arguments name. Nothing is read of the second where the first cannot be read.
+pub fn read_two<R: Env + Files + Eprint>(
+    rt: &R,
+    first: &mut [u8],
+    second: &mut [u8],
+) -> Result<(usize, usize), Unread>
     ensures { WithinTwo (length first.new) (length second.new) result }
 {
-    match read_argument(rt, 1, first) {
-        Input::Bytes(m) => read_second(rt, m, second),
-        Input::Unreadable => TwoInputs::Unreadable,
-        Input::Misused => TwoInputs::Misused,
-    }
-}
-
-// Reads the texts of a program over two files: those that its two arguments name.
-pub fn read_two<R: Env + Files + Eprint>(rt: &R, first: &mut [u8], second: &mut [u8]) -> TwoInputs
-    ensures { WithinTwo (length first.new) (length second.new) result }
-{
-    if !has_argument(rt, 2) || has_argument(rt, 3) {
-        return TwoInputs::Misused;
-    }
-    read_both(rt, first, second)
-}
-
-// The same of the three texts of a program over three files.
-#[derive(Clone, Copy)]
-pub enum ThreeInputs {
-    Bytes(usize, usize, usize),
-    Unreadable,
-    Misused,
-}
-
-// Reads the third file, behind texts of m and n bytes.
-fn read_third<R: Env + Files + Eprint>(rt: &R, m: usize, n: usize, third: &mut [u8]) -> ThreeInputs
-    ensures { WithinThree m n (length third.new) result }
-{
-    match read_argument(rt, 3, third) {
-        Input::Bytes(k) => ThreeInputs::Bytes(m, n, k),
-        Input::Unreadable => ThreeInputs::Unreadable,
-        Input::Misused => ThreeInputs::Misused,
-    }
+    need_arguments(rt, 2)?;
+    let m = read_argument(rt, 1, first)?;
+    let n = read_argument(rt, 2, second)?;
+    Ok((m, n))
 }
 
 // Reads the texts of a program over three files: those that its three arguments name. Nothing is read behind one that cannot be read.
@@ -214,17 +188,14 @@ pub fn read_three<R: Env + Files + Eprint>(
     first: &mut [u8],
     second: &mut [u8],
     third: &mut [u8],
-) -> ThreeInputs
+) -> Result<(usize, usize, usize), Unread>
     ensures { WithinThree (length first.new) (length second.new) (length third.new) result }
 {
-    if !has_argument(rt, 3) || has_argument(rt, 4) {
-        return ThreeInputs::Misused;
-    }
-    match read_both(rt, first, second) {
-        TwoInputs::Bytes(m, n) => read_third(rt, m, n, third),
-        TwoInputs::Unreadable => ThreeInputs::Unreadable,
-        TwoInputs::Misused => ThreeInputs::Misused,
-    }
+    need_arguments(rt, 3)?;
+    let m = read_argument(rt, 1, first)?;
+    let n = read_argument(rt, 2, second)?;
+    let k = read_argument(rt, 3, third)?;
+    Ok((m, n, k))
 }
 
 // Writes to standard output, or says that it cannot.

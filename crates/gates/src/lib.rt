@@ -12,19 +12,13 @@ pub enum Gate {
     Powered(u8, u8, u8),
 }
 
-fn wide(x: u8) -> u16
-    ensures { result ≡ x }
-{
-    x as u16
-}
-
 // The number of a gate.
 pub fn encode(g: Gate) -> u16
     ensures { result ≡ code g }
 {
     match g {
-        Gate::Not(t) => wide(t) * 33 * 4 + 2,
-        Gate::Powered(p, c, t) => (wide(t) * 33 + wide(c) + 1) * 4 + wide(p),
+        Gate::Not(t) => u16::from(t) * 33 * 4 + 2,
+        Gate::Powered(p, c, t) => { (u16::from(t) * 33 + u16::from(c) + 1) * 4 + u16::from(p) }
     }
 }
 

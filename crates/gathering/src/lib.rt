@@ -6,7 +6,7 @@ ghost use Rattle.gathering.specs.Gathering.{added, no_lines, noted, no_controls}
 
 use cascades::Control;
 
-// Lines in order: how many there are, and the first sixteen of them.
+// Lines in order: how many there are, and the first sixteen of them, in an array, since nothing is allocated.
 #[derive(Clone, Copy)]
 pub struct LineList {
     pub count: usize,
@@ -25,29 +25,26 @@ pub struct Controls {
     pub largest: u8,
 }
 
-// No lines.
-fn no_lines() -> LineList
-    ensures { result ≡ no_lines }
-{
-    LineList {
-        count: 0,
-        first: [0; 16],
+impl LineList {
+    // No lines.
+    fn none() -> LineList
+        ensures { result ≡ no_lines }
+    {
+        LineList {
+            count: 0,
+            first: [0; 16],
+        }
     }
-}
 
-// One line more.
-fn add(l: LineList, line: u8) -> LineList
-    requires { l.count + 1 < 2 ^ 64 }
-    ensures { result ≡ added l line }
-{
-    let n = l.count;
-    let mut first = l.first;
-    if n < 16 {
-        first[n] = line;
-    }
-    LineList {
-        count: n + 1,
-        first,
+    // One line more.
+    fn add(&mut self, line: u8)
+        requires { self.old.count + 1 < 2 ^ 64 }
+        ensures { self.new ≡ added self.old line }
+    {
+        if self.count < 16 {
+            self.first[self.count] = line;
+        }
+        self.count += 1;
     }
 }
 
@@ -56,12 +53,12 @@ pub fn no_controls() -> Controls
     ensures { result ≡ no_controls }
 {
     Controls {
-        lines: no_lines(),
-        negated: no_lines(),
+        marks: [false; 32],
+        lines: LineList::none(),
+        negated: LineList::none(),
         rising: true,
         last: 0,
         largest: 0,
-        marks: [false; 32],
     }
 }
 
@@ -73,29 +70,20 @@ pub fn note(a: Controls, c: Control) -> Controls
     let line = c.line;
     let mut marks = a.marks;
     if line < 32 {
-        marks[line as usize] = true;
+        marks[usize::from(line)] = true;
     }
+    let mut lines = a.lines;
+    lines.add(line);
     let mut negated = a.negated;
     if c.negated {
-        negated = add(negated, line);
-    }
-    let lines = a.lines;
-    let mut rising = a.rising;
-    if lines.count != 0 {
-        if line <= a.last {
-            rising = false;
-        }
-    }
-    let mut largest = a.largest;
-    if largest < line {
-        largest = line;
+        negated.add(line);
     }
     Controls {
-        lines: add(lines, line),
-        negated,
-        rising,
-        last: line,
-        largest,
         marks,
+        lines,
+        negated,
+        rising: a.rising && (a.lines.count == 0 || a.last < line),
+        last: line,
+        largest: a.largest.max(line),
     }
 }

@@ -17,8 +17,9 @@ use Rattle.text.specs.declared.Kind.TheVariants.{Circuit}
 use Rattle.text.specs.declared.Refusal.{Refusal}
 use Rattle.text.specs.Judging.{Judged, turned_away}
 use Rattle.loading.specs.declared.Loaded.{Loaded}
-use Rattle.loading.specs.declared.Loaded.TheVariants as loaded
-use Rattle.loading.specs.Loaded.{LoadsTo}
+use Rattle.std.proofs.Common.{Result}
+use Rattle.text.specs.declared.Refused.{Refused}
+use Rattle.loading.specs.Loaded.{Accepts}
 use Rattle.jobs.specs.Jobs.{reducing, output, judged, judged_text}
 use Rattle.jobs.specs.Handing.{AcceptsReduced, LoadsReduced, loaded_done, loaded_area}
 use Rattle.jobs.proofs.One.{text_passed, passed_valid}
@@ -27,7 +28,7 @@ use Rattle.inversion.specs.Invert.{inverse_judged, Invert, Hands}
 use Rattle.inversion.proofs.Inverted.{text_inverse}
 
 -- a text that was loaded, its circuit inverted and the inverse reduced
-pub inverts : (s : List ℕ) (room : ℕ) {codes inverted reduced : List ℕ} {h : Head} {m r : ℕ} → LoadsTo (judged_text Circuit s room) codes (loaded.Accepted h m)
+pub inverts : (s : List ℕ) (room : ℕ) {codes inverted reduced : List ℕ} {h : Head} {m r : ℕ} → Accepts (judged_text Circuit s room) codes h m
     → take m inverted ≡ inverse_codes (take m codes) → ReducedTo inverted m r reduced → AcceptsReduced (inverse_judged (judged_text Circuit s room)) reduced h r
 unfolding inverse_judged
 inverts s room {codes} {inverted} {h = h} {m} w i x =
@@ -46,7 +47,7 @@ unfolding inverse_judged
 refuses w = ap inverse_judged w
 
 -- by the reduced list of the inverse, or the refusal
-pub loaded_hands : (s a codes : List ℕ) (room : ℕ) (x : Loaded) → length codes ≡ 4096 → LoadsReduced (inverse_judged (judged_text Circuit s room)) codes x
+pub loaded_hands : (s a codes : List ℕ) (room : ℕ) (x : Result Loaded Refused) → length codes ≡ 4096 → LoadsReduced (inverse_judged (judged_text Circuit s room)) codes x
     → let o = output reducing (length a) in Hands s room a (loaded_done o x room codes a) (loaded_area o x codes a)
 unfolding Invert judged
 loaded_hands s a codes room x e w = loaded_by reducing (λ k. inverse_judged (judged_text Circuit s k)) s a codes room x e (λ h c q. (text_inverse s room q).1.room) w

@@ -5,6 +5,7 @@ use Rattle.gates.specs.Inverse.{inverse}
 use Rattle.text.specs.declared.Kind.TheVariants.{Circuit}
 use Rattle.text.specs.Judging.{Judged, turned_away, accepted}
 use Rattle.records.specs.declared.Done.{Done}
+use Rattle.records.specs.declared.Outcome.{Outcome}
 use Rattle.jobs.specs.Jobs.{reducing, Entry, Exit, judged, Settled}
 use Rattle.jobs.specs.Handing.{HandsOne}
 
@@ -18,5 +19,5 @@ unfoldable pub Invert : Entry → Exit → Type 0
 Invert e x = Settled reducing e (inverse_judged (judged Circuit e)) x
 
 -- what the covered part promises, which is given only the length of the list
-abbrev pub Hands : List ℕ → ℕ → List ℕ → Done → List ℕ → Type 0
+abbrev pub Hands : List ℕ → ℕ → List ℕ → Done Outcome → List ℕ → Type 0
 Hands s room a d a' = HandsOne (λ l x. Invert (record { text = s; list = l; area = a }) x) room d a'

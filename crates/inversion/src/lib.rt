@@ -9,28 +9,24 @@ ghost use Rattle.inversion.specs.Invert.{inverse_judged, Invert, Hands};
 
 use gates::Gate;
 use loading::Loaded;
-use records::{Done, Outcome};
-use text::Kind;
+use records::{Done, GATES, Outcome};
+use text::{Kind, Refused};
 
 // Loads a circuit text, where the gate list has `room` records, inverts its circuit and reduces the inverse.
-fn load_inverse(text: &[u8], room: usize, codes: &mut [u16]) -> Loaded
+fn load_inverse(text: &[u8], room: usize, codes: &mut [u16]) -> Result<Loaded, Refused>
     requires { 4096 ≤ length codes.old }
     ensures { LoadsReduced (inverse_judged (judged_text Circuit text.now room)) codes.new result }
 {
-    let loaded = jobs::load_text(Kind::Circuit, text, room, codes);
-    let Loaded::Accepted(head, m) = loaded else {
-        return loaded;
-    };
-    composition::invert(codes, m);
-    let fewer = reduction::reduce(codes, m);
-    Loaded::Accepted(head, fewer)
+    let loaded = jobs::load_text(Kind::Circuit, text, room, codes)?;
+    composition::invert(&mut codes[..loaded.gates]);
+    Ok(jobs::reduce_loaded(loaded, codes))
 }
 
 // The covered part of invert.
-pub fn invert_codes(text: &[u8], room: usize, answer: &mut [u8]) -> Done
+pub fn invert_codes(text: &[u8], room: usize, answer: &mut [u8]) -> Done<Outcome>
     ensures { Hands text.now room answer.old result answer.new }
 {
-    let mut codes = [0u16; 4096];
+    let mut codes = [0u16; GATES];
     let loaded = load_inverse(text, room, &mut codes);
     jobs::answer_loaded(Kind::Circuit, loaded, room, codes, answer)
 }

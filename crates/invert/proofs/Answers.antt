@@ -8,6 +8,7 @@ use Rattle.gates.specs.declared.Gate.{Gate}
 use Rattle.gates.specs.declared.Gate.TheVariants.{Not}
 use Rattle.gates.proofs.Inverses.{length_inverse}
 use Rattle.records.specs.declared.Done.{Done}
+use Rattle.records.specs.declared.Outcome.{Outcome}
 use Rattle.records.specs.Records.{filled_by}
 use Rattle.text.specs.declared.Head.{Head}
 use Rattle.text.specs.declared.Kind.TheVariants.{Circuit}
@@ -24,7 +25,7 @@ short : (s : List ℕ) (records : ℕ) (h : Head) (c : List Gate) → inverse_ju
 short s records h c q = let z = text_inverse s records q in rw z.2 (omega (arith, length_inverse z.0, z.1.text.short))
 
 -- by what its covered part hands over, which is told of every list of 4,096 records
-pub hands_left : (s a : List ℕ) (d : Done) (b : List ℕ) → answer_bytes ≤ length a → Hands s 4096 a d b → Left (inverse_judged (judged_text Circuit s 4096)) as_text a d.outcome b
+pub hands_left : (s a : List ℕ) (d : Done Outcome) (b : List ℕ) → answer_bytes ≤ length a → Hands s 4096 a d b → Left (inverse_judged (judged_text Circuit s 4096)) as_text a d.outcome b
 unfolding Invert judged
 hands_left s a d b room w =
     let l : List Gate = replicate 4096 (Not 0) in

@@ -12,6 +12,7 @@ use Rattle.gates.specs.declared.Gate.{Gate}
 use Rattle.gates.specs.Code.{gates}
 use Rattle.gates.proofs.CodeLists.{length_gates, all_codes_take}
 use Rattle.records.specs.declared.Done.{Done}
+use Rattle.records.specs.declared.Outcome.{Outcome}
 use Rattle.records.specs.Records.{filled_by}
 use Rattle.text.specs.declared.Refusal.{Refusal}
 use Rattle.text.specs.declared.Refusal.TheVariants.{ShortAnswer}
@@ -20,11 +21,12 @@ use Rattle.text.specs.Refusals.{number_of}
 use Rattle.text.specs.declared.Kind.{Kind}
 use Rattle.text.specs.declared.Kind.TheVariants.{Cascade, Circuit}
 use Rattle.text.specs.Judging.{Judged, turned_away, accepted, first, or_else, judge}
-use Rattle.rules.specs.declared.Verdict.{Verdict}
 use Rattle.loading.specs.declared.Loaded.{Loaded}
-use Rattle.loading.specs.declared.Loaded.TheVariants as loaded
+use Rattle.std.proofs.Common.{Result, Ok, Err}
+use Rattle.text.specs.declared.Refused.{Refused}
+use Rattle.records.specs.declared.Outcome.{Outcome}
 use Rattle.rules.specs.Verdicts.{seen_verdict}
-use Rattle.loading.specs.Loaded.{Renderable, LoadsTo}
+use Rattle.loading.specs.Loaded.{Renderable, Accepts}
 use Rattle.reduction.specs.Reducing.{ReducedTo}
 use Rattle.habits.specs.Habits as habits
 use Rattle.habits.specs.Habits.{size_rules, filled, all_filled, Judgement, fine, away, Lent, Answer}
@@ -76,7 +78,7 @@ module _ (j : Job) (judged_by : ℕ → Judged) (s a : List ℕ) where
   -- of a text that was loaded into the codes, and its circuit reduced
   module _ (codes : List ℕ) (room : ℕ) (enough : 4096 ≤ room) (h : Head) (m : ℕ) (all : length codes ≡ 4096) (w : AcceptsReduced (judged_by room) codes h m) where
     -- whatever leads to the answer by the loaded list
-    answers : (d : Done) (b : List ℕ) → Settles d.outcome.number room d.filling → ((l : List Gate) → length l ≡ room → exit_of d.outcome (filled_by d.filling l) b ≡ answered j (record { text = s; list = l; area = a }) h (gates (take m codes))) → HandsOne SettledBy room d b
+    answers : (d : Done Outcome) (b : List ℕ) → Settles d.outcome.number room d.filling → ((l : List Gate) → length l ≡ room → exit_of d.outcome (filled_by d.filling l) b ≡ answered j (record { text = s; list = l; area = a }) h (gates (take m codes))) → HandsOne SettledBy room d b
     unfolding Settled
     answers d b f q = record { settles = f; tells = λ l e. settled l _ e w.judged (gates (take m codes), w.reduced, q l e) }
 
@@ -113,14 +115,14 @@ module _ (j : Job) (judged_by : ℕ → Judged) (s a : List ℕ) where
     put_hands as_count i = quoted_hands i
 
   -- by the reduced list, or the refusal
-  pub loaded_by : (codes : List ℕ) (room : ℕ) (x : Loaded) → length codes ≡ 4096 → ((h : Head) (c : List Gate) → judged_by room ≡ accepted h c → 4096 ≤ room) → LoadsReduced (judged_by room) codes x
+  pub loaded_by : (codes : List ℕ) (room : ℕ) (x : Result Loaded Refused) → length codes ≡ 4096 → ((h : Head) (c : List Gate) → judged_by room ≡ accepted h c → 4096 ≤ room) → LoadsReduced (judged_by room) codes x
       → let o = output j (length a) in HandsOne SettledBy room (loaded_done o x room codes a) (loaded_area o x codes a)
-  loaded_by codes room (loaded.Accepted h m) all enough w = put_hands codes room (enough h _ w.judged) h m all w (output j (length a)) refl
-  loaded_by codes room (loaded.Refused r l) all enough w = refused_hands codes room l r w
+  loaded_by codes room (Ok x) all enough w = put_hands codes room (enough x.head _ w.judged) x.head x.gates all w (output j (length a)) refl
+  loaded_by codes room (Err e) all enough w = refused_hands codes room e.line e.refusal w
 
 -- ---- a text that was loaded, and its circuit reduced
 
-pub reduces : (k : Kind) (s : List ℕ) (room : ℕ) {codes codes' : List ℕ} {h : Head} {m r : ℕ} → LoadsTo (judged_text k s room) codes (loaded.Accepted h m) → ReducedTo codes m r codes' → AcceptsReduced (judged_text k s room) codes' h r
+pub reduces : (k : Kind) (s : List ℕ) (room : ℕ) {codes codes' : List ℕ} {h : Head} {m r : ℕ} → Accepts (judged_text k s room) codes h m → ReducedTo codes m r codes' → AcceptsReduced (judged_text k s room) codes' h r
 reduces k s room {codes} {h = h} {m} w x = record {
   circuit = gates (take m codes);
   judged = w.judged;
@@ -130,9 +132,9 @@ reduces k s room {codes} {h = h} {m} w x = record {
 
 -- ---- by the reduced list, or the refusal
 
-pub answerable : (j : Judged) (codes : List ℕ) (x : Loaded) → LoadsReduced j codes x → Answerable x codes
-answerable j codes (loaded.Accepted h m) w = w.renderable
-answerable j codes (loaded.Refused r l) w = tt
+pub answerable : (j : Judged) (codes : List ℕ) (x : Result Loaded Refused) → LoadsReduced j codes x → Answerable x codes
+answerable j codes (Ok x) w = w.renderable
+answerable j codes (Err e) w = tt
 
 -- fewer of the codes can be written too
 pub fewer : {h : Head} {m k : ℕ} {codes : List ℕ} → k ≤ m → Renderable h m codes → Renderable h k codes
@@ -158,7 +160,7 @@ unfolding takes
 takes_writes Cascade = refl
 takes_writes Circuit = refl
 
-pub loaded_hands : (k : Kind) (s a codes : List ℕ) (room : ℕ) (x : Loaded) → length codes ≡ 4096 → LoadsReduced (judged_text k s room) codes x
+pub loaded_hands : (k : Kind) (s a codes : List ℕ) (room : ℕ) (x : Result Loaded Refused) → length codes ≡ 4096 → LoadsReduced (judged_text k s room) codes x
     → let o = output (writes k) (length a) in Hands (writes k) s room a (loaded_done o x room codes a) (loaded_area o x codes a)
 unfolding Says judged
 loaded_hands k s a codes room x e w = loaded_by (writes k) (judged_text (takes (writes k)) s) s a codes room x e (λ h c q. (text_passed (takes (writes k)) s room q).room) (rw (← takes_writes k) at w)
@@ -232,6 +234,6 @@ module _ {A : Type 0} (judged_by : ℕ → ℕ → Judgement A) (Right : A → A
 
 -- ---- rules 1 and 2
 
-pub sized : (k : Kind) (s : List ℕ) (room : ℕ) {v w : Verdict} → v ≡ w → seen_verdict v ≡ first (size_rules (length s) (room ∷ [])) → judged_text k s room ≡ or_else (seen_verdict w) 0 (judge k s)
+pub sized : (k : Kind) (s : List ℕ) (room : ℕ) {A : Type 0} {v w : Result A Refusal} → v ≡ w → seen_verdict v ≡ first (size_rules (length s) (room ∷ [])) → judged_text k s room ≡ or_else (seen_verdict w) 0 (judge k s)
 unfolding judged_text
 sized k s room e q = rw (← q, ← e)

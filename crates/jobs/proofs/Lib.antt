@@ -2,3 +2,4 @@
 pub mod Habits
 pub mod One
 pub mod Handed
+pub mod InText

@@ -5,7 +5,6 @@ use Rattle.gates.specs.declared.Gate.TheVariants.{Not}
 use Rattle.gates.specs.Reduced.{Reduced}
 use Rattle.gates.specs.Code.{gates}
 use Rattle.records.specs.declared.Done.{Done}
-use Rattle.records.specs.declared.DoneText.{DoneText}
 use Rattle.records.specs.declared.DoneTwo.{DoneTwo}
 use Rattle.records.specs.declared.TextOutcome.{TextOutcome}
 use Rattle.records.specs.declared.Outcome.{Outcome}
@@ -16,7 +15,9 @@ use Rattle.text.specs.Text.{circuit_text}
 use Rattle.text.specs.Judging.{Judged, turned_away, accepted}
 use Rattle.loading.specs.Loaded.{Renderable}
 use Rattle.loading.specs.declared.Loaded.{Loaded}
-use Rattle.loading.specs.declared.Loaded.TheVariants as loaded
+use Rattle.std.specs.declared.result.Result.{Result}
+use Rattle.std.specs.declared.result.Result.TheVariants.{Ok, Err}
+use Rattle.text.specs.declared.Refused.{Refused}
 use Rattle.habits.specs.Habits as habits
 use Rattle.outcomes.specs.Outcomes.{Settles, refused, succeeded}
 use Rattle.jobs.specs.Jobs.{Job, Output, as_text, as_count, Exit, Says}
@@ -31,12 +32,12 @@ Said j s l a o l' a' = Says j (record { text = s; list = l; area = a }) (exit_of
 
 -- what the covered part promises, where it is to say `Says` of the gate list: it is given only the length of the list, and says it of every list of
 -- that length; a' is the area at exit
-pub record HandsOne (Says : List Gate → Exit → Type 0) (room : ℕ) (d : Done) (a' : List ℕ) : Type 0 where
+pub record HandsOne (Says : List Gate → Exit → Type 0) (room : ℕ) (d : Done Outcome) (a' : List ℕ) : Type 0 where
   pub settles : Settles d.outcome.number room d.filling
   pub tells : (l : List Gate) → length l ≡ room → Says l (exit_of d.outcome (filled_by d.filling l) a')
 
 -- so that of map and of reduce
-abbrev pub Hands : Job → List ℕ → ℕ → List ℕ → Done → List ℕ → Type 0
+abbrev pub Hands : Job → List ℕ → ℕ → List ℕ → Done Outcome → List ℕ → Type 0
 Hands j s room a d a' = HandsOne (λ l x. Says j (record { text = s; list = l; area = a }) x) room d a'
 
 -- the same of a job over several texts and one gate list: its exit with this outcome, this list and this area
@@ -44,7 +45,7 @@ abbrev pub exit_of_text : TextOutcome → List Gate → List ℕ → habits.Exit
 exit_of_text o l a = record { number = o.number; line = o.line; text = o.text; count = o.count; lent = record { lists = l ∷ []; area = a } }
 
 -- and what its covered part promises
-pub record HandsText (Says : List Gate → habits.Exit → Type 0) (room : ℕ) (d : DoneText) (a' : List ℕ) : Type 0 where
+pub record HandsText (Says : List Gate → habits.Exit → Type 0) (room : ℕ) (d : Done TextOutcome) (a' : List ℕ) : Type 0 where
   pub settles : Settles d.outcome.number room d.filling
   pub tells : (l : List Gate) → length l ≡ room → Says l (exit_of_text d.outcome (filled_by d.filling l) a')
 
@@ -72,9 +73,9 @@ pub record AcceptsReduced (j : Judged) (codes : List ℕ) (h : Head) (m : ℕ) :
   pub renderable : Renderable h m codes
 
 -- of a text that is judged j, the reduced list or the refusal
-abbrev pub LoadsReduced : Judged → List ℕ → Loaded → Type 0
-LoadsReduced j codes (loaded.Accepted h m) = AcceptsReduced j codes h m
-LoadsReduced j codes (loaded.Refused r l) = j ≡ turned_away r l
+abbrev pub LoadsReduced : Judged → List ℕ → Result Loaded Refused → Type 0
+LoadsReduced j codes (Ok x) = AcceptsReduced j codes x.head x.gates
+LoadsReduced j codes (Err e) = j ≡ turned_away e.refusal e.line
 
 -- ---- what is handed over
 
@@ -83,7 +84,7 @@ abbrev pub text_of : Head → ℕ → List ℕ → List ℕ
 text_of h m codes = circuit_text h.lines (gates (take m codes))
 
 -- that text, where the answer area has room for it
-unfoldable pub written_done : Head → ℕ → ℕ → List ℕ → List ℕ → Done
+unfoldable pub written_done : Head → ℕ → ℕ → List ℕ → List ℕ → Done Outcome
 written_done h m room codes a = cond (ltb (length a) (length (text_of h m codes))) (refused ShortAnswer 0 room codes) (succeeded m (length (text_of h m codes)) room codes)
 
 unfoldable pub written_area : Head → ℕ → List ℕ → List ℕ → List ℕ
@@ -96,7 +97,7 @@ abbrev pub quotes : Output → Bool
 quotes as_text = false
 quotes as_count = true
 
-abbrev pub put_done : Output → Head → ℕ → ℕ → List ℕ → List ℕ → Done
+abbrev pub put_done : Output → Head → ℕ → ℕ → List ℕ → List ℕ → Done Outcome
 put_done as_text h m room codes a = written_done h m room codes a
 put_done as_count h m room codes a = succeeded m 0 room codes
 
@@ -104,15 +105,15 @@ abbrev pub put_area : Output → Head → ℕ → List ℕ → List ℕ → List
 put_area as_text h m codes a = written_area h m codes a
 put_area as_count h m codes a = a
 
-abbrev pub loaded_done : Output → Loaded → ℕ → List ℕ → List ℕ → Done
-loaded_done o (loaded.Accepted h m) room codes a = put_done o h m room codes a
-loaded_done o (loaded.Refused r l) room codes a = refused r l room codes
+abbrev pub loaded_done : Output → Result Loaded Refused → ℕ → List ℕ → List ℕ → Done Outcome
+loaded_done o (Ok x) room codes a = put_done o x.head x.gates room codes a
+loaded_done o (Err e) room codes a = refused e.refusal e.line room codes
 
-abbrev pub loaded_area : Output → Loaded → List ℕ → List ℕ → List ℕ
-loaded_area o (loaded.Accepted h m) codes a = put_area o h m codes a
-loaded_area o (loaded.Refused r l) codes a = a
+abbrev pub loaded_area : Output → Result Loaded Refused → List ℕ → List ℕ → List ℕ
+loaded_area o (Ok x) codes a = put_area o x.head x.gates codes a
+loaded_area o (Err e) codes a = a
 
 -- the reduced list of an accepted text can be written
-abbrev pub Answerable : Loaded → List ℕ → Type 0
-Answerable (loaded.Accepted h m) codes = Renderable h m codes
-Answerable (loaded.Refused r l) codes = Unit {0}
+abbrev pub Answerable : Result Loaded Refused → List ℕ → Type 0
+Answerable (Ok x) codes = Renderable x.head x.gates codes
+Answerable (Err e) codes = Unit {0}

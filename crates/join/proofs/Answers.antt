@@ -19,7 +19,7 @@ use Rattle.habits.specs.Habits.{Judgement, fine, away, Circuit, Lent, Exit, Answ
 use Rattle.habits.proofs.Says.{says_away, says_fine}
 use Rattle.habits.proofs.Yields.{yields_fine}
 use Rattle.records.specs.declared.TextOutcome.{TextOutcome}
-use Rattle.records.specs.declared.DoneText.{DoneText}
+use Rattle.records.specs.declared.Done.{Done}
 use Rattle.records.specs.Records.{filled_by}
 use Rattle.jobs.specs.Jobs.{as_text}
 use Rattle.jobs.specs.Habits.{answer, Right}
@@ -42,7 +42,7 @@ stands : {a b w : List ℕ} {n : ℕ} → n ≡ length w → b ≡ w ++ drop (le
 stands {a} {w = w} e f = record { number = e; bytes = f ∙ ap (λ (k : ℕ). w ++ drop k a) (sym e) }
 
 -- so it does by what its covered part hands over, where the area is long enough
-left : (s t a : List ℕ) (h : DoneText) (b : List ℕ) → answer_bytes ≤ length a → Hands s 4096 t a h b → Left s t a h.outcome b
+left : (s t a : List ℕ) (h : Done TextOutcome) (b : List ℕ) → answer_bytes ≤ length a → Hands s 4096 t a h b → Left s t a h.outcome b
 unfolding Join refusal answered success
 left s t a h b room w = go (judged s 4096 t) refl
   where
@@ -83,7 +83,7 @@ unfolding Prints PrintsBy
 prints_success s t {c} {r} q z = subst (λ (v : Judgement Circuit). PrintsBy v (circuit_text c.lines r)) (sym q) (r, z, refl)
 
 -- the contract of `answer`, by what was handed over and what was then written at the front of the area
-module _ (s t a : List ℕ) (h : DoneText) (b : List ℕ) (room : answer_bytes ≤ length a) (hands : Hands s 4096 t a h b) where
+module _ (s t a : List ℕ) (h : Done TextOutcome) (b : List ℕ) (room : answer_bytes ≤ length a) (hands : Hands s 4096 t a h b) where
   -- the refusal
   pub refusal_answers : {n : ℕ} {e : List ℕ} → h.outcome.number ≢ 0 → Fronts b n e (text_turned_away h.outcome.number h.outcome.line h.outcome.text) → Answers (Prints s t) a n e
   refusal_answers {n} {e} z f = go (left s t a h b room hands)

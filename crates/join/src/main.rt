@@ -1,47 +1,44 @@
 // Joins the circuit texts of two files, the first before the second.
 #![tactic(auto)]
 
-ghost use Rattle.console.specs.Output.{Answers};
 ghost use Rattle.join.specs.Output.{Prints};
 
-use files::TwoInputs;
+use console::{ANSWER_BYTES, BUFFER_BYTES, RECORDS, Task};
+use files::Unread;
 
-// How many records the gate list has for the job: as many as a text may have gates. The program itself needs no list.
-const RECORDS: usize = 4096;
+// The texts of two circuits, to be joined.
+#[derive(Clone, Copy)]
+struct Texts<'a> {
+    first: &'a [u8],
+    second: &'a [u8],
+}
 
-// Leaves at the front of the area the bytes that the program writes for two texts, and gives their number.
-fn answer(first: &[u8], second: &[u8], out: &mut [u8; console::ANSWER_BYTES]) -> usize
-    ensures { Answers (Prints first.now second.now) out.old result out.new }
-{
-    let d = joins::join_codes(first, RECORDS, second, out);
-    let outcome = d.outcome;
-    if outcome.number != 0 {
-        return forms::write_turned_away(outcome.number, outcome.line, outcome.text, out);
+impl Task<ANSWER_BYTES> for Texts<'_> {
+    ghost prints = { λ t. Prints t.first.now t.second.now };
+
+    // The job has a gate list of so many records; the program itself needs none.
+    fn answer(&self, out: &mut [u8; ANSWER_BYTES]) -> usize {
+        let outcome = joins::join_codes(self.first, RECORDS, self.second, out).outcome;
+        // The C interface has refusals as numbers that are not 0, and so has an outcome.
+        if outcome.number != 0 {
+            return forms::write_turned_away(outcome.number, outcome.line, outcome.text, out);
+        }
+        outcome.count
     }
-    outcome.count
 }
 
-// Writes what the program is to write for two texts, which its contract names.
-fn print<R: Print + Eprint>(rt: &R, first: &[u8], second: &[u8], bytes: &[u8])
-    requires { Prints first.now second.now bytes.now }
-{
-    files::write_out(rt, bytes);
-}
-
-// Writes the answer for two texts.
-fn run_on<R: Print + Eprint>(rt: &R, first: &[u8], second: &[u8]) {
-    let mut out = [0u8; console::ANSWER_BYTES];
-    let n = answer(first, second, &mut out);
-    print(rt, first, second, &out[..n]);
-}
-
-// Each buffer takes one byte more than a text may have, so a longer one is seen to be too long.
 fn main(rt: HostRuntime) {
-    let mut first = [0u8; console::TEXT_BYTES + 1];
-    let mut second = [0u8; console::TEXT_BYTES + 1];
+    let mut first = [0u8; BUFFER_BYTES];
+    let mut second = [0u8; BUFFER_BYTES];
     match files::read_two(&rt, &mut first, &mut second) {
-        TwoInputs::Bytes(m, n) => run_on(&rt, &first[..m], &second[..n]),
-        TwoInputs::Unreadable => {}
-        TwoInputs::Misused => files::tell(&rt, b"usage: join FIRST SECOND\n"),
+        Ok((m, n)) => {
+            let texts = Texts {
+                first: &first[..m],
+                second: &second[..n],
+            };
+            console::write_answer(&rt, &texts)
+        }
+        Err(Unread::Unreadable) => {}
+        Err(Unread::Misused) => files::tell(&rt, b"usage: join FIRST SECOND\n"),
     }
 }

@@ -8,12 +8,15 @@ use Rattle.text.specs.declared.Kind.TheVariants as kind
 use Rattle.text.specs.declared.Refusal.TheVariants.{TooMany, DifferentLines}
 use Rattle.habits.specs.Habits.{Judgement, fine, away, ◌then◌, require, Circuit, text_judged, Exit, Says}
 use Rattle.loading.specs.Loaded.{Renderable}
-use Rattle.records.specs.declared.DoneText.{DoneText}
+use Rattle.records.specs.declared.Done.{Done}
+use Rattle.records.specs.declared.TextOutcome.{TextOutcome}
 use Rattle.jobs.specs.Jobs.{as_text}
 use Rattle.jobs.specs.Habits.{Right}
 use Rattle.jobs.specs.Handing.{HandsText}
-use Rattle.joins.specs.declared.Joined.{Joined}
-use Rattle.joins.specs.declared.Joined.TheVariants.{Accepted, Refused}
+use Rattle.loading.specs.declared.Loaded.{Loaded}
+use Rattle.std.specs.declared.result.Result.{Result}
+use Rattle.std.specs.declared.result.Result.TheVariants.{Ok, Err}
+use Rattle.text.specs.declared.TextRefused.{TextRefused}
 
 -- "joins two circuits on the same number of lines, the first before the second": their plain join. "Turned away: 11, different line counts, line 0,
 -- once both texts have been read without refusal and before the join's own 9"; "A join whose gates together pass 4,096 before reduction is refused
@@ -39,7 +42,7 @@ Join s l t a x = Says (judged s (length l) t) (Right as_text) (record { lists = 
 -- ---- what the functions beneath promise
 
 -- the covered part, which is given only the length of the list
-abbrev pub Hands : List ℕ → ℕ → List ℕ → List ℕ → DoneText → List ℕ → Type 0
+abbrev pub Hands : List ℕ → ℕ → List ℕ → List ℕ → Done TextOutcome → List ℕ → Type 0
 Hands s room t a d a' = HandsText (λ l x. Join s l t a x) room d a'
 
 -- the circuit of the first m codes, below its head
@@ -60,6 +63,6 @@ pub record Accepts (v : Judgement Circuit) (codes : List ℕ) (h : Head) (m : �
   pub renderable : Renderable h m codes
 
 -- what is judged v was loaded into the codes
-abbrev pub JoinsTo : Judgement Circuit → List ℕ → Joined → Type 0
-JoinsTo v codes (Accepted h m) = Accepts v codes h m
-JoinsTo v codes (Refused r t l) = v ≡ away r t l
+abbrev pub JoinsTo : Judgement Circuit → List ℕ → Result Loaded TextRefused → Type 0
+JoinsTo v codes (Ok x) = Accepts v codes x.head x.gates
+JoinsTo v codes (Err e) = v ≡ away e.refusal e.text e.line

@@ -18,7 +18,7 @@ use Rattle.text.specs.Judging.{Judged, turned_away, gates, belongs, Found, sound
 use Rattle.text.proofs.Printed.{none_got, parse_sound}
 use Rattle.text.proofs.Cursor.{at_form, at_bad}
 use Rattle.text.proofs.Accepted.{Kept, keeps as rules_kept}
-use Rattle.gathering.specs.declared.Controls.{Controls}
+use Rattle.reading.specs.declared.Mct.{Mct}
 use Rattle.gathering.specs.Gathering.{gathered}
 use Rattle.reading.specs.Seen.{only_gate, only_mct, with_gathered}
 use Rattle.judging.specs.Seen.{Judgement, keeps, fails, by_rules, by_form, judge_line}
@@ -117,14 +117,14 @@ module _ {k : Kind} {B : Type 0} {only : Got Form → Got B} {form : B → Form}
 
 -- ---- the controls, as they were gathered
 
-pub with_gathered_is : (x : Got (List Control × ℕ)) {a : Controls} {t : ℕ} {r : List ℕ} → with_gathered x ≡ got (a, t) r → (cs : List Control) × (a ≡ gathered cs) × (x ≡ got (cs, t) r)
+pub with_gathered_is : (x : Got (List Control × ℕ)) {m : Mct} {r : List ℕ} → with_gathered x ≡ got m r → (cs : List Control) × (m.controls ≡ gathered cs) × (x ≡ got (cs, m.target) r)
 unfolding with_gathered
 with_gathered_is none e = absurd (none_got e)
-with_gathered_is (got p s) {a} {t} {r} e =
-    let q : ◌≡◌ {A = Controls × ℕ} (gathered p.0, p.1) (a, t) = cc in
+with_gathered_is (got p s) {m} {r} e =
+    let q : ◌≡◌ {A = Mct} (record { controls = gathered p.0; target = p.1 }) m = cc in
     let u : s ≡ r = cc in
-    let v : p.1 ≡ t = ap (λ (w : Controls × ℕ). w.1) q in
-    (p.0, ap (λ (w : Controls × ℕ). w.0) (sym q), rw (u, ← v))
+    let v : p.1 ≡ m.target = ap (λ (w : Mct). w.target) q in
+    (p.0, ap (λ (w : Mct). w.controls) (sym q), rw (u, ← v))
 
 pub with_gathered_none : (x : Got (List Control × ℕ)) → with_gathered x ≡ none → x ≡ none
 unfolding with_gathered

@@ -11,16 +11,14 @@ use Rattle.text.specs.declared.Kind.{Kind}
 use Rattle.text.specs.declared.Kind.TheVariants.{Cascade, Circuit}
 use Rattle.text.specs.Heads.{unkept, line_below}
 use Rattle.text.specs.Judging.{Judged, Found, sound, breaks, first, rules, turned_away, judge, judge_lines, rest, judge_rest, read_all}
-use Rattle.gathering.specs.declared.Controls.{Controls}
 use Rattle.gathering.specs.Gathering.{gathered}
-use Rattle.judging.specs.declared.HeadLine.{HeadLine}
-use Rattle.judging.specs.declared.HeadLine.TheVariants as head_line
-use Rattle.judging.specs.declared.KeepLine.{KeepLine}
-use Rattle.judging.specs.declared.KeepLine.TheVariants as keep_line
-use Rattle.judging.specs.declared.GateLine.{GateLine}
-use Rattle.judging.specs.declared.GateLine.TheVariants as gate_line
-use Rattle.judging.specs.declared.TargetLine.{TargetLine}
-use Rattle.judging.specs.declared.TargetLine.TheVariants as target_line
+use Rattle.reading.specs.declared.Mct.{Mct}
+use Rattle.std.specs.declared.option.Option.{Option}
+use Rattle.std.specs.declared.option.Option.TheVariants.{Some, None}
+use Rattle.std.specs.declared.result.Result.{Result}
+use Rattle.std.specs.declared.result.Result.TheVariants.{Ok, Err}
+use Rattle.text.specs.declared.Refused.{Refused}
+use Rattle.tokens.specs.declared.Parsed.{Parsed}
 
 -- ---- line 1
 
@@ -38,9 +36,9 @@ pub record HasHead (s : List ℕ) (at : ℕ) (h : Head) (next : ℕ) : Type 0 wh
   pub inside : next ≤ length s
 
 -- what line 1 was found to be: as above, or the text is turned away
-abbrev pub HeadLineOf : List ℕ → ℕ → HeadLine → Type 0
-HeadLineOf s at (head_line.Head h next) = HasHead s at h next
-HeadLineOf s at (head_line.Refused r l) = (k : Kind) → judge k (drop at s) ≡ turned_away r l
+abbrev pub HeadLineOf : List ℕ → ℕ → Result (Parsed Head) Refused → Type 0
+HeadLineOf s at (Ok p) = HasHead s at p.value p.end
+HeadLineOf s at (Err e) = (k : Kind) → judge k (drop at s) ≡ turned_away e.refusal e.line
 
 -- ---- the keep line
 
@@ -53,11 +51,11 @@ pub record HasKeep (s : List ℕ) (at n : ℕ) (h : Head) (next : ℕ) : Type 0 
   pub ahead : at < next
   pub inside : next ≤ length s
 
--- what stands at the place after line 1 of a cascade of n lines: as above; or the text is turned away; or the gate lines, with nothing kept
-abbrev pub KeepLineOf : List ℕ → ℕ → ℕ → KeepLine → Type 0
-KeepLineOf s at n (keep_line.Kept h next) = HasKeep s at n h next
-KeepLineOf s at n (keep_line.Refused r l) = judge_at Cascade n s at ≡ turned_away r l
-KeepLineOf s at n keep_line.Missing = judge_at Cascade n s at ≡ judge_lines Cascade (unkept n) 0 [] (read_all (cut (drop at s)))
+-- what stands at the place after line 1 of a cascade of n lines: as above; or the gate lines, with nothing kept; or the text is turned away
+abbrev pub KeepLineOf : List ℕ → ℕ → ℕ → Result (Option (Parsed Head)) Refused → Type 0
+KeepLineOf s at n (Ok (Some p)) = HasKeep s at n p.value p.end
+KeepLineOf s at n (Ok None) = judge_at Cascade n s at ≡ judge_lines Cascade (unkept n) 0 [] (read_all (cut (drop at s)))
+KeepLineOf s at n (Err e) = judge_at Cascade n s at ≡ turned_away e.refusal e.line
 
 -- ---- a gate line
 
@@ -78,26 +76,22 @@ by_form k h before c (got f s) = by_rules (first (rules k h before c f)) f s
 unfoldable pub judge_line : Kind → Head → ℕ → List Gate → List ℕ → Judgement
 judge_line k h before c s = by_form k h before c (parse s)
 
--- what a line of a circuit was found to be, in the text s
-abbrev pub seen_gate_line : List ℕ → GateLine → Judgement
-seen_gate_line s (gate_line.Gate g next) = keeps (gate g) (drop next s)
-seen_gate_line s (gate_line.Refused r l) = fails r
-
 -- the place moves forward and stays within the text; a refusal has the line's number, counted from 1
-abbrev pub gate_line_ahead : List ℕ → ℕ → Head → ℕ → GateLine → Type 0
-gate_line_ahead s at h before (gate_line.Gate g next) = (at < next) × (next ≤ length s)
-gate_line_ahead s at h before (gate_line.Refused r l) = l ≡ line_below h before
+abbrev pub line_ahead : {A : Type 0} → List ℕ → ℕ → Head → ℕ → Result (Parsed A) Refused → Type 0
+line_ahead s at h before (Ok p) = (at < p.end) × (p.end ≤ length s)
+line_ahead s at h before (Err e) = e.line ≡ line_below h before
+
+-- what a line of a circuit was found to be, in the text s
+abbrev pub seen_gate_line : List ℕ → Result (Parsed Gate) Refused → Judgement
+seen_gate_line s (Ok p) = keeps (gate p.value) (drop p.end s)
+seen_gate_line s (Err e) = fails e.refusal
 
 -- so the line at a place was judged, after any circuit c of `before` gates
-abbrev pub GateLineOf : List ℕ → ℕ → Head → ℕ → GateLine → Type 0
+abbrev pub GateLineOf : List ℕ → ℕ → Head → ℕ → Result (Parsed Gate) Refused → Type 0
 GateLineOf s at h before r = (c : List Gate) → length c ≡ before → seen_gate_line s r ≡ judge_line Circuit h before c (drop at s)
 
 -- the same of a line of a cascade, of whose controls cs there is what was gathered
-abbrev pub MctLineOf : List ℕ → ℕ → Head → ℕ → ℕ → Controls → TargetLine → Type 0
-MctLineOf s at h before total a (target_line.Target t next) =
-    (cs : List Control) × (a ≡ gathered cs) × ((c : List Gate) → length c ≡ total → keeps (mct cs t) (drop next s) ≡ judge_line Cascade h before c (drop at s))
-MctLineOf s at h before total a (target_line.Refused r l) = (c : List Gate) → length c ≡ total → fails r ≡ judge_line Cascade h before c (drop at s)
-
-abbrev pub mct_line_ahead : List ℕ → ℕ → Head → ℕ → TargetLine → Type 0
-mct_line_ahead s at h before (target_line.Target t next) = (at < next) × (next ≤ length s)
-mct_line_ahead s at h before (target_line.Refused r l) = l ≡ line_below h before
+abbrev pub MctLineOf : List ℕ → ℕ → Head → ℕ → ℕ → Result (Parsed Mct) Refused → Type 0
+MctLineOf s at h before total (Ok p) =
+    (cs : List Control) × (p.value.controls ≡ gathered cs) × ((c : List Gate) → length c ≡ total → keeps (mct cs p.value.target) (drop p.end s) ≡ judge_line Cascade h before c (drop at s))
+MctLineOf s at h before total (Err e) = (c : List Gate) → length c ≡ total → fails e.refusal ≡ judge_line Cascade h before c (drop at s)

@@ -21,7 +21,7 @@ use Rattle.text.specs.Reading.{Line, cut}
 use Rattle.text.specs.Heads.{head_of, kept_lines, unkept, line_below}
 use Rattle.text.specs.declared.Kind.{Kind}
 use Rattle.text.specs.declared.Kind.TheVariants.{Cascade, Circuit}
-use Rattle.text.specs.Judging.{Judged, turned_away, accepted, gates, most, controls, any_from, rising, first, keep_rules, or_else, judge_lines, rest, judge_rest, read_all, judge}
+use Rattle.text.specs.Judging.{Judged, turned_away, accepted, gates, most, controls, any_from, rising, first, keep_rules, or_else, judge_lines, rest, judge_rest, read_all}
 use Rattle.meaning.specs.Pattern.{number, has}
 use Rattle.text.proofs.Cursor.{at_end}
 use Rattle.text.proofs.Accepted.{Kept, good_valid, expandable}
@@ -37,10 +37,11 @@ use Rattle.gathering.specs.declared.Controls.{Controls}
 use Rattle.gathering.specs.Gathering.{listed, gathered}
 use Rattle.gathering.proofs.Gathered.{AreLines, lines_are, negated_are}
 use Rattle.judging.specs.Seen.{judge_at, HasHead, HasKeep, keeps, fails, judge_line}
-use Rattle.loading.specs.declared.Loaded.{Loaded}
-use Rattle.loading.specs.declared.Loaded.TheVariants as loaded
+use Rattle.std.proofs.Common.{Result, Ok}
+use Rattle.text.specs.declared.Refused.{Refused}
+use Rattle.tokens.specs.declared.Parsed.{Parsed}
 use Rattle.loading.specs.declared.Progress.{Progress}
-use Rattle.loading.specs.Loaded.{LoadsTo, standing, refused_at, Begun, gate_lines_from, lines_from, judged_on, Counted, SoFar, Sound, Stands, Ready, TakenAs, Taken, ExpansionFits}
+use Rattle.loading.specs.Loaded.{LoadsTo, standing, BegunAt, gate_lines_from, lines_from, Counted, SoFar, Stands, Ready, TakenAt, TakenAs, Taken, ExpansionFits}
 use Rattle.judging.proofs.Lines.{goes_on, line_judged, line_kept}
 
 -- ---- the judging goes on
@@ -74,7 +75,7 @@ unfolding lines_from judge_at
 first_lines Cascade n s at l = refl
 first_lines Circuit n s at l = unfold judge_rest rest keep_rules any_from rising first or_else head_of number has in refl
 
-pub begun : {s : List ℕ} {at : ℕ} {h : Head} {next : ℕ} → HasHead s at h next → Begun s at (standing next 0 h 0)
+pub begun : {s : List ℕ} {at : ℕ} {h : Head} {next : ℕ} → HasHead s at h next → BegunAt s at (record { value = standing 0 h 0; end = next })
 begun {s} {at} {h} {next} x = record {
   forward = omega (arith, x.ahead);
   stands = λ k l. record {
@@ -84,29 +85,22 @@ begun {s} {at} {h} {next} x = record {
   };
 }
 
-pub refused_first : {s : List ℕ} {at : ℕ} {r : Refusal} {i : ℕ} → at ≤ length s → ((k : Kind) → judge k (drop at s) ≡ turned_away r i) → Begun s at (refused_at (length s) r i)
-refused_first {s} b x = record { forward = b; stands = λ k l. record { inside = le_refl (length s); judged = sym (x k); sound = refl } }
-
 -- ---- where the loading stands
 
 module _ {k : Kind} {s : List ℕ} {at : ℕ} {p : Progress} {l : List ℕ} (w : Ready k s at p l) where
-  -- no line is taken of a text that is refused
-  pub not_refused : {r : Refusal} {i : ℕ} → p.loaded ≡ loaded.Refused r i → ⊥
-  not_refused e = let z = rw e at w.sound in omega (arith, z, w.here, w.more)
+  pub ready : {j : Kind} → k ≡ j → Ready j s at p l
+  ready {j} q = rw q at w
 
-  module _ {h : Head} {m : ℕ} (e : p.loaded ≡ loaded.Accepted h m) where
-    pub ready_mct : k ≡ Cascade → Ready Cascade s at (standing at p.lines h m) l
-    ready_mct q = record { here = refl; more = w.more; room = w.room; sound = rw (e, q) at w.sound }
+  pub moves : {j : Kind} (r : Result (Parsed Progress) Refused) (l' : List ℕ) → k ≡ j → Taken j s at p l r l' → Taken k s at p l r l'
+  moves {j} r l' q t = subst (λ (i : Kind). Taken i s at p l r l') (sym q) t
 
-    pub ready_gate : k ≡ Circuit → Ready Circuit s at (standing at m h m) l
-    ready_gate q = let z = rw (e, q) at w.sound in record { here = refl; more = w.more; room = w.room; sound = record { some = z.some; narrow = z.narrow; counted = refl; few = z.few; codes = z.codes } }
+module _ {s : List ℕ} {at : ℕ} {p : Progress} {l : List ℕ} (w : Ready Circuit s at p l) where
+  pub ready_gate : Ready Circuit s at (standing p.loaded.gates p.loaded.head p.loaded.gates) l
+  ready_gate = let z = w.sound in record { more = w.more; room = w.room; sound = record { some = z.some; narrow = z.narrow; counted = refl; few = z.few; codes = z.codes } }
 
-    pub cascade_moves : {r : Progress} {l' : List ℕ} → k ≡ Cascade → Taken Cascade s at (standing at p.lines h m) l r l' → Taken k s at p l r l'
-    cascade_moves q t = record { forward = t.forward; stands = rw (w.here, e, q) t.stands }
-
-    pub gate_moves : {r : Progress} {l' : List ℕ} → k ≡ Circuit → TakenAs Circuit (gate_lines_from Circuit s at m h m l) s at r l' → Taken k s at p l r l'
-    unfolding lines_from
-    gate_moves q t = let z : p.lines ≡ m = (rw (e, q) at w.sound).counted in record { forward = t.forward; stands = rw (w.here, e, q, z) t.stands }
+  pub gate_lines : gate_lines_from Circuit s at p.loaded.gates p.loaded.head p.loaded.gates l ≡ lines_from Circuit s at p.lines p.loaded.head p.loaded.gates l
+  unfolding lines_from
+  gate_lines = ap (λ (n : ℕ). gate_lines_from Circuit s at n p.loaded.head p.loaded.gates l) (sym w.sound.counted)
 
 -- ---- a line
 
@@ -124,13 +118,13 @@ some_kept s at before h m l n = rw (ne_eqb h.kept 0 n) (go (eqb before 0))
     go true = refl
     go false = refl
 
-module _ {k : Kind} {s : List ℕ} {at before : ℕ} {h : Head} {m : ℕ} {l : List ℕ} (w : Ready k s at (standing at before h m) l) where
+module _ {k : Kind} {s : List ℕ} {at before : ℕ} {h : Head} {m : ℕ} {l : List ℕ} (w : Ready k s at (standing before h m) l) where
   pub circuit_count : length (gates_of (take m l)) ≡ m
   circuit_count = length_gates (take m l) ∙ length-take-le m l (omega (arith, w.room, w.sound.few))
 
   -- that breaks a rule
-  pub refused : {x : Refusal} {i : ℕ} → fails x ≡ judge_line k h before (gates_of (take m l)) (drop at s) → i ≡ line_below h before → TakenAs k (gate_lines_from k s at before h m l) s at (refused_at (length s) x i) l
-  refused {x} e q = record { forward = w.more; stands = record { inside = le_refl (length s); judged = ap (turned_away x) q ∙ sym (line_fails k h before (gates_of (take m l)) s at w.more e); sound = refl } }
+  pub refused : {x : Refusal} {i : ℕ} → fails x ≡ judge_line k h before (gates_of (take m l)) (drop at s) → i ≡ line_below h before → gate_lines_from k s at before h m l ≡ turned_away x i
+  refused {x} e q = line_fails k h before (gates_of (take m l)) s at w.more e ∙ ap (turned_away x) (sym q)
 
   -- that keeps the rules, and whose gates were written
   module _ {f : Form} {r : List ℕ} (e : keeps f r ≡ judge_line k h before (gates_of (take m l)) (drop at s)) where
@@ -143,7 +137,7 @@ module _ {k : Kind} {s : List ℕ} {at before : ℕ} {h : Head} {m : ℕ} {l : L
     pub valid : AllValid h.lines (gates h f)
     valid = good_valid k h f kept.good
 
-    pub taken : {n next : ℕ} {l' : List ℕ} → r ≡ drop next s → (at < next) × (next ≤ length s) → Written (gates h f) l m l' n → Counted k (before + 1) n → TakenAs k (gate_lines_from k s at before h m l) s at (standing next (before + 1) h n) l'
+    pub taken : {n next : ℕ} {l' : List ℕ} → r ≡ drop next s → (at < next) × (next ≤ length s) → Written (gates h f) l m l' n → Counted k (before + 1) n → TakenAt k (gate_lines_from k s at before h m l) s at (record { value = standing (before + 1) h n; end = next }) l'
     taken {n} {next} {l'} d a x c = record {
       forward = a.0;
       stands = record {
@@ -176,32 +170,34 @@ nothing_left h s at e b =
     ∙ ap (λ (ls : List Line). judge_rest Cascade h.lines (rest Cascade ls)) at_end
     ∙ no_rest h b
 
-pub loaded_all : {k : Kind} {j : Judged} {s : List ℕ} {p : Progress} {l : List ℕ} → Stands k j s p l → length s ≤ p.place → LoadsTo j l p.loaded
+pub loaded_all : {k : Kind} {j : Judged} {s : List ℕ} {at : ℕ} {p : Progress} {l : List ℕ} → Stands k j s at p l → length s ≤ at → LoadsTo j l (Ok p.loaded)
 unfolding lines_from
-loaded_all {k} {j} {s} {p} {l} w e = go p.loaded w.judged w.sound
+loaded_all {k} {j} {s} {at} {p} {l} w e = record { judged = sym w.judged ∙ ended k w.sound; renderable = record { narrow = w.sound.narrow; few = w.sound.few; codes = w.sound.codes } }
   where
-    ended : (k : Kind) (h : Head) (m : ℕ) → SoFar k p.lines h m l → lines_from k s p.place p.lines h m l ≡ accepted h (gates_of (take m l))
-    ended Circuit h m v = lines_end Circuit h p.lines (gates_of (take m l)) s p.place e
-    ended Cascade h m v = go (eqb p.lines 0) refl (eqb h.kept 0) refl
-      where
-        go : (a : Bool) → eqb p.lines 0 ≡ a → (b : Bool) → eqb h.kept 0 ≡ b → cond (a && b) (judge_at Cascade h.lines s p.place) (gate_lines_from Cascade s p.place p.lines h m l) ≡ accepted h (gates_of (take m l))
-        go true x true y = let z : m ≡ 0 = v.counted.1 (eqb-true p.lines 0 x) in rw z (nothing_left h s p.place e (eqb-true h.kept 0 y))
-        go true x false y = lines_end Cascade h p.lines (gates_of (take m l)) s p.place e
-        go false x b y = lines_end Cascade h p.lines (gates_of (take m l)) s p.place e
+    h : Head
+    h = p.loaded.head
 
-    go : (x : Loaded) → judged_on k s p.place p.lines x l ≡ j → Sound k s p.place p.lines x l → LoadsTo j l x
-    go (loaded.Accepted h m) q v = record { judged = sym q ∙ ended k h m v; renderable = record { narrow = v.narrow; few = v.few; codes = v.codes } }
-    go (loaded.Refused r i) q v = sym q
+    m : ℕ
+    m = p.loaded.gates
+
+    ended : (k : Kind) → SoFar k p.lines h m l → lines_from k s at p.lines h m l ≡ accepted h (gates_of (take m l))
+    ended Circuit v = lines_end Circuit h p.lines (gates_of (take m l)) s at e
+    ended Cascade v = go (eqb p.lines 0) refl (eqb h.kept 0) refl
+      where
+        go : (a : Bool) → eqb p.lines 0 ≡ a → (b : Bool) → eqb h.kept 0 ≡ b → cond (a && b) (judge_at Cascade h.lines s at) (gate_lines_from Cascade s at p.lines h m l) ≡ accepted h (gates_of (take m l))
+        go true x true y = let z : m ≡ 0 = v.counted.1 (eqb-true p.lines 0 x) in rw z (nothing_left h s at e (eqb-true h.kept 0 y))
+        go true x false y = lines_end Cascade h p.lines (gates_of (take m l)) s at e
+        go false x b y = lines_end Cascade h p.lines (gates_of (take m l)) s at e
 
 -- ---- a gate of a circuit
 
-pub gate_taken : {s : List ℕ} {at n : ℕ} {h : Head} {l : List ℕ} {g : Gate} {r : List ℕ} {next : ℕ} (w : Ready Circuit s at (standing at n h n) l) → keeps (gate g) r ≡ judge_line Circuit h n (gates_of (take n l)) (drop at s) → r ≡ drop next s → (at < next) × (next ≤ length s) → TakenAs Circuit (gate_lines_from Circuit s at n h n l) s at (standing next (n + 1) h (n + 1)) (set l n (code g))
+pub gate_taken : {s : List ℕ} {at n : ℕ} {h : Head} {l : List ℕ} {g : Gate} {r : List ℕ} {next : ℕ} (w : Ready Circuit s at (standing n h n) l) → keeps (gate g) r ≡ judge_line Circuit h n (gates_of (take n l)) (drop at s) → r ≡ drop next s → (at < next) × (next ≤ length s) → TakenAt Circuit (gate_lines_from Circuit s at n h n l) s at (record { value = standing (n + 1) h (n + 1); end = next }) (set l n (code g))
 unfolding gates
 gate_taken {n = n} {l = l} {g} w e d a = taken w e d a (one g l n (omega (arith, room_left w e, w.room))) refl
 
 -- ---- an mct gate of a cascade, of whose controls cs there is what was gathered
 
-module _ {s : List ℕ} {at before : ℕ} {h : Head} {m : ℕ} {l : List ℕ} {a : Controls} {cs : List Control} {t : ℕ} {r : List ℕ} (w : Ready Cascade s at (standing at before h m) l) (g : a ≡ gathered cs) (e : keeps (mct cs t) r ≡ judge_line Cascade h before (gates_of (take m l)) (drop at s)) where
+module _ {s : List ℕ} {at before : ℕ} {h : Head} {m : ℕ} {l : List ℕ} {a : Controls} {cs : List Control} {t : ℕ} {r : List ℕ} (w : Ready Cascade s at (standing before h m) l) (g : a ≡ gathered cs) (e : keeps (mct cs t) r ≡ judge_line Cascade h before (gates_of (take m l)) (drop at s)) where
   wide : length (control_lines cs) ≤ 15
   unfolding controls
   wide = (kept w e).narrow
@@ -231,20 +227,20 @@ module _ {s : List ℕ} {at before : ℕ} {h : Head} {m : ℕ} {l : List ℕ} {a
   unfolding gates expansion±
   expansion_fits_at = rw (are_lines, are_negated) (record { narrow = w.sound.narrow; expandable = on_lines.0; below = on_lines.1; fits = omega (arith, room_left w e, w.room) })
 
-  pub mct_taken : {n next : ℕ} {l' : List ℕ} → r ≡ drop next s → (at < next) × (next ≤ length s) → Written (between_nots (listed a.negated) (expansion h.lines (kept_lines h) (listed a.lines) t)) l m l' n → TakenAs Cascade (gate_lines_from Cascade s at before h m l) s at (standing next (before + 1) h n) l'
+  pub mct_taken : {n next : ℕ} {l' : List ℕ} → r ≡ drop next s → (at < next) × (next ≤ length s) → Written (between_nots (listed a.negated) (expansion h.lines (kept_lines h) (listed a.lines) t)) l m l' n → TakenAt Cascade (gate_lines_from Cascade s at before h m l) s at (record { value = standing (before + 1) h n; end = next }) l'
   unfolding gates most expansion±
   mct_taken d b x = taken w e d b (rw (are_lines, are_negated) at x) ((kept w e).few, λ z. absurd (omega arith))
 
 -- ---- a line of a cascade, which may be a keep line
 
-module _ {s : List ℕ} {at before : ℕ} {h : Head} {m : ℕ} {l : List ℕ} (w : Ready Cascade s at (standing at before h m) l) where
+module _ {s : List ℕ} {at before : ℕ} {h : Head} {m : ℕ} {l : List ℕ} (w : Ready Cascade s at (standing before h m) l) where
   -- none after a gate line, nor after a keep line
-  pub mct_only : before ≢ 0 → {q : Progress} {l' : List ℕ} → TakenAs Cascade (gate_lines_from Cascade s at before h m l) s at q l' → Taken Cascade s at (standing at before h m) l q l'
+  pub mct_only : before ≢ 0 → (q : Result (Parsed Progress) Refused) (l' : List ℕ) → TakenAs Cascade (gate_lines_from Cascade s at before h m l) s at q l' → Taken Cascade s at (standing before h m) l q l'
   unfolding lines_from
-  mct_only n t = rw (ne_eqb before 0 n) t
+  mct_only n q l' t = rw (ne_eqb before 0 n) t
 
-  pub keep_before : h.kept ≢ 0 → {q : Progress} {l' : List ℕ} → TakenAs Cascade (gate_lines_from Cascade s at before h m l) s at q l' → Taken Cascade s at (standing at before h m) l q l'
-  keep_before n {q} {l'} t = subst (λ (j : Judged). TakenAs Cascade j s at q l') (sym (some_kept s at before h m l n)) t
+  pub keep_before : h.kept ≢ 0 → (q : Result (Parsed Progress) Refused) (l' : List ℕ) → TakenAs Cascade (gate_lines_from Cascade s at before h m l) s at q l' → Taken Cascade s at (standing before h m) l q l'
+  keep_before n q l' t = subst (λ (j : Judged). TakenAs Cascade j s at q l') (sym (some_kept s at before h m l n)) t
 
   module _ (a : before ≡ 0) (b : h.kept ≡ 0) where
     -- the first line below line 1
@@ -255,7 +251,7 @@ module _ {s : List ℕ} {at before : ℕ} {h : Head} {m : ℕ} {l : List ℕ} (w
     no_codes : m ≡ 0
     no_codes = w.sound.counted.1 a
 
-    pub keep_taken : {g : Head} {next : ℕ} → HasKeep s at h.lines g next → Taken Cascade s at (standing at before h m) l (standing next 0 g 0) l
+    pub keep_taken : {g : Head} {next : ℕ} → HasKeep s at h.lines g next → TakenAt Cascade (lines_from Cascade s at before h m l) s at (record { value = standing 0 g 0; end = next }) l
     keep_taken {g} {next} x = record {
       forward = x.ahead;
       stands = record {
@@ -265,11 +261,11 @@ module _ {s : List ℕ} {at before : ℕ} {h : Head} {m : ℕ} {l : List ℕ} (w
       };
     }
 
-    pub keep_refused : {r : Refusal} {i : ℕ} → judge_at Cascade h.lines s at ≡ turned_away r i → Taken Cascade s at (standing at before h m) l (refused_at (length s) r i) l
-    keep_refused e = record { forward = w.more; stands = record { inside = le_refl (length s); judged = sym e ∙ sym first_below; sound = refl } }
+    pub keep_refused : {r : Refusal} {i : ℕ} → judge_at Cascade h.lines s at ≡ turned_away r i → lines_from Cascade s at before h m l ≡ turned_away r i
+    keep_refused e = first_below ∙ e
 
-    pub keep_missing : judge_at Cascade h.lines s at ≡ judge_lines Cascade (unkept h.lines) 0 [] (read_all (cut (drop at s))) → {q : Progress} {l' : List ℕ} → TakenAs Cascade (gate_lines_from Cascade s at before h m l) s at q l' → Taken Cascade s at (standing at before h m) l q l'
-    keep_missing e {q} {l'} t =
+    pub keep_missing : judge_at Cascade h.lines s at ≡ judge_lines Cascade (unkept h.lines) 0 [] (read_all (cut (drop at s))) → (q : Result (Parsed Progress) Refused) (l' : List ℕ) → TakenAs Cascade (gate_lines_from Cascade s at before h m l) s at q l' → Taken Cascade s at (standing before h m) l q l'
+    keep_missing e q l' t =
         let i : h ≡ unkept h.lines = λ x. record { lines = h.lines; kept = b x } in
         let same : gate_lines_from Cascade s at before h m l ≡ lines_from Cascade s at before h m l = rw (a, no_codes) (ap (λ (g : Head). judge_lines Cascade g 0 [] (read_all (cut (drop at s)))) i ∙ sym e ∙ sym (rw (a, no_codes) at first_below)) in
         subst (λ (j : Judged). TakenAs Cascade j s at q l') same t

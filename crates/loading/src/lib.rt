@@ -9,57 +9,49 @@ ghost use Rattle.text.specs.Heads.{kept_lines};
 ghost use Rattle.cascades.specs.Signs.{between_nots};
 ghost use Rattle.expansion.specs.Written.{Written};
 ghost use Rattle.gathering.specs.Gathering.{listed};
-ghost use Rattle.loading.specs.Loaded.{LoadsTo, standing, refused_at, Begun, Ready, gate_lines_from, TakenAs, Taken, ExpansionFits};
+ghost use Rattle.loading.specs.Loaded.{LoadsTo, Begun, Ready, gate_lines_from, TakenAs, Taken, ExpansionFits};
 
 use gathering::Controls;
-use judging::{GateLine, HeadLine, KeepLine, TargetLine};
 use reader::Reader;
-use text::{Head, Kind, Refusal};
+use text::{Head, Kind, Refused};
+use tokens::Parsed;
 
-// What a text is judged to be: accepted, with its head and the number of codes of its circuit; or refused, with the line.
+// An accepted text: its head, and how many codes its circuit has. They stand at the front of the list that was lent, since nothing is allocated.
 #[derive(Clone, Copy)]
-pub enum Loaded {
-    Accepted(Head, usize),
-    Refused(Refusal, usize),
+pub struct Loaded {
+    pub head: Head,
+    pub gates: usize,
 }
 
-// Where the loading of a text stands between two lines: the place after the line that was read last, how many gate lines were taken, and what
-// the text is so far. A refused text is read no further: its place is the text's end.
+// Where the loading of a text stands between two lines: how many gate lines were taken, and what was loaded so far.
 #[derive(Clone, Copy)]
 pub struct Progress {
-    pub place: usize,
     pub lines: usize,
     pub loaded: Loaded,
 }
 
-// The text, whose end is this place, is refused.
-fn refused(end: usize, r: Refusal, line: usize) -> Progress
-    ensures { result ≡ refused_at end r line }
+// The line of a circuit at a place, where the loading stands at p: its gate becomes the next code.
+fn next_gate(
+    s: &[u8],
+    at: usize,
+    p: Progress,
+    list: &mut [u16],
+) -> Result<Parsed<Progress>, Refused>
+    requires { Ready Circuit s.now at p list.old }
+    ensures { Taken Circuit s.now at p list.old result list.new }
 {
-    Progress {
-        place: end,
-        lines: 0,
-        loaded: Loaded::Refused(r, line),
-    }
-}
-
-// The line of a circuit at a place, after n gates: its gate becomes code n.
-fn next_gate(s: &[u8], at: usize, head: Head, n: usize, list: &mut [u16]) -> Progress
-    requires { Ready Circuit s.now at (standing at n head n) list.old }
-    ensures { TakenAs Circuit (gate_lines_from Circuit s.now at n head n list.old) s.now at result list.new }
-{
-    let end = s.len();
-    match judging::gate_line(s, at, head, n) {
-        GateLine::Gate(g, next) => {
-            list[n] = gates::encode(g);
-            Progress {
-                place: next,
-                lines: n + 1,
-                loaded: Loaded::Accepted(head, n + 1),
-            }
-        }
-        GateLine::Refused(r, line) => refused(end, r, line),
-    }
+    let head = p.loaded.head;
+    let n = p.loaded.gates;
+    let gate = judging::gate_line(s, at, head, n)?;
+    list[n] = gates::encode(gate.value);
+    let gates = n + 1;
+    Ok(Parsed {
+        value: Progress {
+            lines: gates,
+            loaded: Loaded { head, gates },
+        },
+        end: gate.end,
+    })
 }
 
 // The expansion of an mct gate, from code m on.
@@ -85,108 +77,109 @@ fn expand_mct(head: Head, t: u8, a: Controls, list: &mut [u16], m: usize) -> usi
     )
 }
 
-// The line of a cascade at a place, after `before` mct gates whose expansions are the first m codes: its own expansion stands behind them.
-fn next_mct(s: &[u8], at: usize, head: Head, before: usize, m: usize, list: &mut [u16]) -> Progress
-    requires { Ready Cascade s.now at (standing at before head m) list.old }
-    ensures { TakenAs Cascade (gate_lines_from Cascade s.now at before head m list.old) s.now at result list.new }
+// The gate line of a cascade at a place, where the loading stands at p: its expansion stands behind those of the mct gates before it.
+fn next_mct(s: &[u8], at: usize, p: Progress, list: &mut [u16]) -> Result<Parsed<Progress>, Refused>
+    requires { Ready Cascade s.now at p list.old }
+    ensures { TakenAs Cascade (gate_lines_from Cascade s.now at p.lines p.loaded.head p.loaded.gates list.old) s.now at result list.new }
 {
-    let end = s.len();
-    let line = judging::mct_line(s, at, head, before, m);
-    let target = line.target;
-    let controls = line.controls;
-    match target {
-        TargetLine::Target(t, after) => {
-            let n = expand_mct(head, t, controls, list, m);
-            Progress {
-                place: after,
-                lines: before + 1,
-                loaded: Loaded::Accepted(head, n),
-            }
-        }
-        TargetLine::Refused(r, line) => refused(end, r, line),
-    }
+    let head = p.loaded.head;
+    let m = p.loaded.gates;
+    let mct = judging::mct_line(s, at, head, p.lines, m)?;
+    let read = mct.value;
+    let gates = expand_mct(head, read.target, read.controls, list, m);
+    Ok(Parsed {
+        value: Progress {
+            lines: p.lines + 1,
+            loaded: Loaded { head, gates },
+        },
+        end: mct.end,
+    })
 }
 
-// The line of a cascade at a place, after `before` mct gates: the first one below line 1 may be a keep line.
+// The line of a cascade at a place, where the loading stands at p: the first one below line 1 may be a keep line.
 fn next_of_cascade(
     s: &[u8],
     at: usize,
-    head: Head,
-    before: usize,
-    m: usize,
+    p: Progress,
     list: &mut [u16],
-) -> Progress
-    requires { Ready Cascade s.now at (standing at before head m) list.old }
-    ensures { Taken Cascade s.now at (standing at before head m) list.old result list.new }
+) -> Result<Parsed<Progress>, Refused>
+    requires { Ready Cascade s.now at p list.old }
+    ensures { Taken Cascade s.now at p list.old result list.new }
 {
-    let end = s.len();
-    if before != 0 {
-        return next_mct(s, at, head, before, m, list);
+    let head = p.loaded.head;
+    if p.lines != 0 {
+        return next_mct(s, at, p, list);
     }
     if head.kept != 0 {
-        return next_mct(s, at, head, before, m, list);
+        return next_mct(s, at, p, list);
     }
-    match judging::keep_line(s, at, head) {
-        KeepLine::Kept(keeping, next) => Progress {
-            place: next,
-            lines: 0,
-            loaded: Loaded::Accepted(keeping, 0),
-        },
-        KeepLine::Refused(r, line) => refused(end, r, line),
-        KeepLine::Missing => next_mct(s, at, head, before, m, list),
-    }
+    let Some(keep) = judging::keep_line(s, at, head)? else {
+        return next_mct(s, at, p, list);
+    };
+    let loaded = Loaded {
+        head: keep.value,
+        gates: 0,
+    };
+    Ok(Parsed {
+        value: Progress { lines: 0, loaded },
+        end: keep.end,
+    })
 }
 
 // Line 1 of a text, at a place.
-fn first_line(s: &[u8], at: usize) -> Progress
+fn first_line(s: &[u8], at: usize) -> Result<Parsed<Progress>, Refused>
     requires { at ≤ length s.now }
     ensures { Begun s.now at result }
 {
-    let end = s.len();
-    match judging::head_line(s, at) {
-        HeadLine::Head(head, next) => Progress {
-            place: next,
-            lines: 0,
-            loaded: Loaded::Accepted(head, 0),
-        },
-        HeadLine::Refused(r, line) => refused(end, r, line),
-    }
+    let head = judging::head_line(s, at)?;
+    let loaded = Loaded {
+        head: head.value,
+        gates: 0,
+    };
+    Ok(Parsed {
+        value: Progress { lines: 0, loaded },
+        end: head.end,
+    })
 }
 
 // The line at a place, where the loading of a text of a kind stands at p.
-fn next_line(kind: Kind, s: &[u8], at: usize, p: Progress, list: &mut [u16]) -> Progress
+fn next_line(
+    kind: Kind,
+    s: &[u8],
+    at: usize,
+    p: Progress,
+    list: &mut [u16],
+) -> Result<Parsed<Progress>, Refused>
     requires { Ready kind s.now at p list.old }
     ensures { Taken kind s.now at p list.old result list.new }
 {
-    let so_far = p.loaded;
-    let Loaded::Accepted(head, m) = so_far else {
-        return p;
-    };
     match kind {
-        Kind::Cascade => next_of_cascade(s, at, head, p.lines, m, list),
-        Kind::Circuit => next_gate(s, at, head, m, list),
+        Kind::Cascade => next_of_cascade(s, at, p, list),
+        Kind::Circuit => next_gate(s, at, p, list),
     }
 }
 
 // Loads a text of a kind from where a reader stands.
-fn text_from<'a>(kind: Kind, r: Reader<'a>, list: &mut [u16]) -> Loaded
+fn text_from<'a>(kind: Kind, r: Reader<'a>, list: &mut [u16]) -> Result<Loaded, Refused>
     requires { (r.place ≤ length r.text.now) × (4096 ≤ length list.old) }
     ensures { LoadsTo (judge kind (drop r.entry.place r.entry.text.now)) list.new result }
 {
-    let mut r = r;
-    let mut p = first_line(r.text, r.place);
-    r = reader::moved(r, p.place);
+    let first = first_line(r.text, r.place)?;
+    let mut p = first.value;
+    let mut r = r.moved(first.end);
     while r.place < r.text.len() {
-        p = next_line(kind, r.text, r.place, p, list);
-        r = reader::moved(r, p.place);
+        let next = next_line(kind, r.text, r.place, p, list)?;
+        p = next.value;
+        r = r.moved(next.end);
     }
-    p.loaded
+    Ok(p.loaded)
 }
 
-// Judges a text of a kind, and leaves the codes of its circuit, as read or expanded, at the front of the list.
-pub fn load(kind: Kind, s: &[u8], list: &mut [u16]) -> Loaded
+// Judges a text of a kind, and leaves the codes of its circuit, as read or expanded, at the front of the list. Any list that is long enough serves,
+// so its length is a clause, here and above, and no type.
+pub fn load(kind: Kind, s: &[u8], list: &mut [u16]) -> Result<Loaded, Refused>
     requires { 4096 ≤ length list.old }
     ensures { LoadsTo (judge kind s.now) list.new result }
 {
-    text_from(kind, reader::new(s), list)
+    text_from(kind, Reader::new(s), list)
 }

@@ -15,10 +15,8 @@ use Rattle.partners.specs.Partner.{NoPartner}
 use Rattle.partners.specs.Steps.{Leaves, partnered, alone}
 use Rattle.partners.proofs.Partners.{partner_at, partner_same, merges_merged, brought_partner}
 use Rattle.stacks.specs.Remaining.{kept, remaining}
-use Rattle.stacks.specs.Stacks.{Stacked, by_site, by_target, by_control}
 use Rattle.stacks.specs.Found.{PartnerAt}
 use Rattle.merging.specs.Merged.{Codes, Stepped}
-use Rattle.stacks.proofs.Stacking.{stacks_pushed, stacks_changed}
 use Rattle.gates.proofs.CodePairs.{same_site, merged_none, merged_one, code_joined}
 use Rattle.stacks.proofs.Remaining.{kept_none, kept_one, remaining_cons, remaining_append, remaining_suc}
 
@@ -122,14 +120,6 @@ module _ (l : List ℕ) (n g j : ℕ) (h : n ≤ length l) (m : PartnerAt l n g 
       go (yes d) = rw (d, get_or-set_same l j x 0 (omega (arith, m.inside))) px
       go (no d) = rw (get_or-set_other l j i x 0 d) (po i d)
 
-  -- each place has its site, and none that was removed comes back
-  sites_merged : (i : ℕ) → get_or (set l j x) i 0 / 4 ≡ get_or l i 0 / 4
-  unfolding x
-  sites_merged = place_merged (λ i k. k / 4 ≡ get_or l i 0 / 4) (omega arith) (λ i d. refl)
-
-  there_merged : (i : ℕ) → 1 ≤ get_or (set l j x) i 0 % 4 → 1 ≤ get_or l i 0 % 4
-  there_merged = place_merged (λ i k. 1 ≤ k % 4 → 1 ≤ get_or l i 0 % 4) (λ b. m.there) (λ i d b. b)
-
   codes_merged : Codes l n → Code 32 g → Codes (set l j x) n
   unfolding x
   codes_merged cs wg =
@@ -137,25 +127,15 @@ module _ (l : List ℕ) (n g j : ℕ) (h : n ≤ length l) (m : PartnerAt l n g 
       (λ b c. code_joined (get_or l j 0) g (cs j m.inside m.there) wg one_place (λ z. omega arith))
       (λ i d b c. cs i b c)
 
-  stepped_merged : Codes l n → Code 32 g → Stepped l n g n (set l j x)
-  stepped_merged cs wg = record {
+  -- of the list that the code has stored
+  pub stepped_merged : (l' : List ℕ) → l' ≡ set l j (joined (get_or l j 0) g) → Codes l n → Code 32 g → Stepped l n g n l'
+  unfolding x
+  stepped_merged l' e cs wg = rw e (record {
     leaves = leaves_merged (cs j m.inside m.there) wg;
     within = omega arith;
     codes = codes_merged cs wg;
     rest = drop-set-lt (n + 1) l j x (omega (arith, m.inside));
-  }
-
-  stacked_merged : (ss ts cs bs bt bc : List ℕ) → Stacked l n ss ts cs bs bt bc → Stacked (set l j x) n ss ts cs bs bt bc
-  stacked_merged ss ts cs bs bt bc w = record {
-    of_sites = stacks_changed by_site 1056 l n ss bs w.of_sites (set l j x) (λ i b. sites_merged i) (λ i b. there_merged i);
-    of_targets = stacks_changed by_target 33 l n ts bt w.of_targets (set l j x) (λ i b. sites_merged i) (λ i b. there_merged i);
-    of_controls = stacks_changed by_control 33 l n cs bc w.of_controls (set l j x) (λ i b. sites_merged i) (λ i b. there_merged i);
-  }
-
-  -- of the list that the code has stored
-  pub outcome_merged : (l' : List ℕ) → l' ≡ set l j (joined (get_or l j 0) g) → Codes l n → Code 32 g → (ss ts cs bs bt bc : List ℕ) → Stacked l n ss ts cs bs bt bc → Stepped l n g n l' × Stacked l' n ss ts cs bs bt bc
-  unfolding x
-  outcome_merged l' e codes wg ss ts cs bs bt bc w = rw e (stepped_merged codes wg, stacked_merged ss ts cs bs bt bc w)
+  })
 
 -- ---- no partner
 
@@ -199,23 +179,3 @@ module _ (l : List ℕ) (n g : ℕ) (h : n < length l) where
     codes = codes_pushed cs wg;
     rest = drop-set-lt (n + 1) l n g (omega arith);
   })
-
-  site_at : get_or (set l n g) n 0 / 4 ≡ g / 4
-  site_at = ap (λ (k : ℕ). k / 4) same_at
-
-  site_before : (i : ℕ) → i < n → get_or (set l n g) i 0 / 4 ≡ get_or l i 0 / 4
-  site_before i a = ap (λ (k : ℕ). k / 4) (same_before i a)
-
-  there_before : (i : ℕ) → i < n → 1 ≤ get_or (set l n g) i 0 % 4 → 1 ≤ get_or l i 0 % 4
-  there_before i a b = rw (same_before i a) at b
-
-  -- place n on its three stacks
-  pub stacked_pushed : n < 4096 → g < 4224 → (ss ts cs bs bt bc : List ℕ) → Stacked l n ss ts cs bs bt bc → (ss' ts' cs' bs' bt' bc' : List ℕ) → ss' ≡ set ss (g / 4) (n + 1) → bs' ≡ set bs n (get_or ss (g / 4) 0)
-      → ts' ≡ set ts (g / 4 / 33 + 1) (n + 1) → bt' ≡ set bt n (get_or ts (g / 4 / 33 + 1) 0) → cs' ≡ set cs (g / 4 % 33) (n + 1) → bc' ≡ set bc n (get_or cs (g / 4 % 33) 0) → Stacked (set l n g) (n + 1) ss' ts' cs' bs' bt' bc'
-  stacked_pushed few code ss ts cs bs bt bc w ss' ts' cs' bs' bt' bc' es fs et ft ec fc =
-      let m : List ℕ = set l n g in
-      record {
-        of_sites = stacks_pushed by_site 1056 m n ss bs (stacks_changed by_site 1056 l n ss bs w.of_sites m site_before there_before) (g / 4) site_at few (omega arith) ss' bs' es fs;
-        of_targets = stacks_pushed by_target 33 m n ts bt (stacks_changed by_target 33 l n ts bt w.of_targets m site_before there_before) (g / 4 / 33 + 1) (ap by_target site_at) few (omega arith) ts' bt' et ft;
-        of_controls = stacks_pushed by_control 33 m n cs bc (stacks_changed by_control 33 l n cs bc w.of_controls m site_before there_before) (g / 4 % 33) (ap by_control site_at) few (omega arith) cs' bc' ec fc;
-      }

@@ -4,21 +4,19 @@ use mathlib.Core.Logic.{◌↔◌}
 use mathlib.Core.List.{List, [], ◌∷◌, ◌++◌, append-nil}
 use Prim.Native.Nat.{ℕ, suc, ◌+◌, ◌-◌, ◌%◌, ◌≤◌, ◌<◌}
 use native.Mathlib.Omega.{arith}
-use lib.ListN.{length, take, drop, get_or, set, replicate}
+use lib.ListN.{length, take, drop, get_or, set}
 use lib.Seq.{take-suc, take-suc-set, drop-set-lt, drop-drop, get_or-drop}
 use Rattle.gates.specs.declared.Gate.{Gate}
 use Rattle.gates.specs.Circuit.{AllValid}
 use Rattle.gates.specs.Code.{gate, gates, Code, AllCodes}
 use Rattle.gates.proofs.Codes.{below}
-use Rattle.gates.proofs.CodeLists.{gates_append, code_in_front}
+use Rattle.gates.proofs.CodeLists.{gates_append, code_at}
 use Rattle.gates.specs.Reduced.{Reduced}
 use Rattle.partners.specs.Shortest.{Shortest}
 use Rattle.partners.specs.Steps.{Leaves, Turns, over, turn}
 use Rattle.partners.proofs.PartnerSearch.{turns_fewest, turns_reduced}
 use Rattle.stacks.specs.Remaining.{kept, remaining}
-use Rattle.stacks.specs.Stacks.{Stacked, by_site, by_target, by_control}
 use Rattle.merging.specs.Merged.{Codes, Stepped, Kept, Closed, MergedTo}
-use Rattle.stacks.proofs.Stacking.{stacks_empty}
 use Rattle.stacks.proofs.Remaining.{kept_none, kept_one, remaining_nil, all_remaining, remaining_suc}
 
 -- ---- lists
@@ -33,12 +31,6 @@ next : (l L : List ℕ) (i : ℕ) → drop i l ≡ drop i L → get_or l i 0 ≡
 next l L i e =
     let z : i + 0 ≡ i = omega arith in
     rw z at (sym (get_or-drop i l 0 0) ∙ ap (λ (x : List ℕ). get_or x 0 0) e ∙ get_or-drop i L 0 0)
-
--- ---- the stacks
-
--- empty
-pub stacked_empty : (l bs bt bc : List ℕ) → length bs ≡ 4096 → length bt ≡ 4096 → length bc ≡ 4096 → Stacked l 0 (replicate 1056 0) (replicate 33 0) (replicate 33 0) bs bt bc
-stacked_empty l bs bt bc es et ec = record { of_sites = stacks_empty by_site 1056 l bs es; of_targets = stacks_empty by_target 33 l bt et; of_controls = stacks_empty by_control 33 l bc ec }
 
 -- a gate's number, for the stacks
 pub code_below : (g : ℕ) → Code 32 g → g < 4224
@@ -89,8 +81,8 @@ pub merging_start : (L : List ℕ) → Merging L 0 0 L
 merging_start L = record { within = omega arith; turns = rw remaining_nil over; codes = λ j a. absurd (omega arith); rest = refl }
 
 module _ (L l : List ℕ) (i n : ℕ) (h : i < length L) (w : Merging L i n l) where
-  pub merging_code : (m : ℕ) → i < m → m ≤ length L → AllCodes 32 (take m L) → Code 32 (get_or l i 0)
-  merging_code m a b cs = rw (next l L i w.rest) (code_in_front 32 L m i 0 a b cs)
+  pub merging_code : AllCodes 32 L → Code 32 (get_or l i 0)
+  merging_code cs = rw (next l L i w.rest) (code_at 32 L i 0 h cs)
 
   pub merging_more : (r : ℕ) (l' : List ℕ) → Stepped l n (get_or l i 0) r l' → Merging L (i + 1) r l'
   merging_more r l' s =

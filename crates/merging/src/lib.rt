@@ -5,22 +5,12 @@
 // A gate is its number, and a removed one keeps its place with the power 0, until the gaps are closed.
 #![tactic(auto)]
 
-ghost use Rattle.std.specs.Prelude.{◌≡◌, ◌+◌, ◌*◌, ◌/◌, ◌≤◌, ◌<◌, length, take, get_or, set};
+ghost use Rattle.std.specs.Prelude.{◌≡◌, ◌+◌, ◌*◌, ◌/◌, ◌≤◌, ◌<◌, length, get_or, set};
 ghost use Rattle.gates.specs.Code.{Code, AllCodes, joined};
-ghost use Rattle.stacks.specs.Stacks.{Stacked};
+ghost use Rattle.stacks.specs.Holding.{Holds};
 ghost use Rattle.merging.specs.Merged.{Codes, Stepped, Kept, Closed, MergedTo};
 
-use stacks::Partner;
-
-// Puts place n on top of stack k.
-fn stack(tops: &mut [u16], below: &mut [u16], n: usize, k: usize)
-    requires { (k < length tops.old) × (n < length below.old) × (n < 4096) }
-    ensures tops_after { tops.new ≡ set tops.old k (n + 1) }
-    ensures below_after { below.new ≡ set below.old n (get_or tops.old k 0) }
-{
-    below[n] = tops[k];
-    tops[k] = (n + 1) as u16;
-}
+use stacks::{GateStacks, StackSet};
 
 // What stands at j has become the identity: its power is 0, its target and control stay for the stacks.
 fn remove(list: &mut [u16], j: usize)
@@ -45,77 +35,32 @@ fn merge(list: &mut [u16], j: usize, g: u16)
 }
 
 // Puts g at place n, the end, and on its three stacks.
-fn push(
-    list: &mut [u16],
-    sites: &mut [u16],
-    targets: &mut [u16],
-    controls: &mut [u16],
-    below_site: &mut [u16],
-    below_target: &mut [u16],
-    below_control: &mut [u16],
-    n: usize,
-    g: u16,
-)
+fn push(list: &mut [u16], stacks: &mut GateStacks<'_>, n: usize, g: u16)
     requires n_in_bounds { (n < length list.old) × (n < 4096) × (g < 4224) }
-    requires stacked { Stacked list.old n sites.old targets.old controls.old below_site.old below_target.old below_control.old }
+    requires stacked { Holds stacks.old list.old n }
     ensures list_after { list.new ≡ set list.old n g }
-    ensures stacked_2 { Stacked list.new (n + 1) sites.new targets.new controls.new below_site.new below_target.new below_control.new }
+    ensures stacked_2 { Holds stacks.new list.new (n + 1) }
 {
     list[n] = g;
-    let site = (g / 4) as usize;
-    let target = site / 33 + 1;
-    let control = site % 33;
-    stack(sites, below_site, n, site);
-    stack(targets, below_target, n, target);
-    stack(controls, below_control, n, control);
+    stacks.push(list, n);
 }
 
-// Merges g with its partner, or pushes it; gives the number of places in use.
-fn step(
-    list: &mut [u16],
-    sites: &mut [u16],
-    targets: &mut [u16],
-    controls: &mut [u16],
-    below_site: &mut [u16],
-    below_target: &mut [u16],
-    below_control: &mut [u16],
-    n: usize,
-    g: u16,
-) -> usize
+// Merges g with its partner, or pushes it; gives the number of places in use. These are the front of the list, which grows and shrinks in place.
+fn step(list: &mut [u16], stacks: &mut GateStacks<'_>, n: usize, g: u16) -> usize
     requires n_in_bounds { (n < length list.old) × (n < 4096) }
     requires codes { Codes list.old n }
     requires code { Code 32 g }
-    requires stacked { Stacked list.old n sites.old targets.old controls.old below_site.old below_target.old below_control.old }
+    requires stacked { Holds stacks.old list.old n }
     ensures stepped { Stepped list.old n g result list.new }
-    ensures stacked_2 { Stacked list.new result sites.new targets.new controls.new below_site.new below_target.new below_control.new }
+    ensures stacked_2 { Holds stacks.new list.new result }
 {
-    match stacks::find_partner(
-        list,
-        sites,
-        targets,
-        controls,
-        below_site,
-        below_target,
-        below_control,
-        n,
-        g,
-    ) {
-        Partner::At(j) => {
+    match stacks.find_partner(list, n, g) {
+        Some(j) => {
             merge(list, j, g);
             n
         }
-        Partner::Nowhere => {
-            push(
-                list,
-                sites,
-                targets,
-                controls,
-                below_site,
-                below_target,
-                below_control,
-                n,
-                g,
-            );
+        None => {
+            push(list, stacks, n, g);
             n + 1
         }
     }
@@ -139,48 +84,38 @@ fn close_gaps(list: &mut [u16], n: usize) -> usize
     ensures { Closed list.old n result list.new }
 {
     let mut r = 0;
-    let mut i = 0;
-    while i < n {
+    for i in 0..n {
         let x = list[i];
         r = keep(list, r, x);
-        i += 1;
     }
     r
 }
 
-// Merges each of the first m gates with its partner among those before it, if it has one; what is left stays in order, and its number is given.
+// Merges each gate with its partner among those before it, if it has one; what is left stays in order, in front, and its number is given.
 // The three slices below_* are lent for the stacks: nothing is asked of what they hold, and nothing said of what they hold afterwards.
 pub fn merge_partners(
     list: &mut [u16],
     below_site: &mut [u16],
     below_target: &mut [u16],
     below_control: &mut [u16],
-    m: usize,
 ) -> usize
-    requires m_in_bounds { (m ≤ length list.old) × (m ≤ 4096) }
-    requires all_codes { AllCodes 32 (take m list.old) }
+    requires list_len { length list.old ≤ 4096 }
+    requires all_codes { AllCodes 32 list.old }
     requires below_site_len { (length below_site.old ≡ 4096) × (length below_target.old ≡ 4096) × (length below_control.old ≡ 4096) }
-    ensures { MergedTo list.old m result list.new }
+    ensures { MergedTo list.old (length list.old) result list.new }
 {
     let mut sites = [0u16; 1056];
     let mut targets = [0u16; 33];
     let mut controls = [0u16; 33];
+    let mut stacks = GateStacks::new(
+        StackSet::new(&mut sites, below_site),
+        StackSet::new(&mut targets, below_target),
+        StackSet::new(&mut controls, below_control),
+    );
     let mut n = 0;
-    let mut i = 0;
-    while i < m {
+    for i in 0..list.len() {
         let g = list[i];
-        n = step(
-            list,
-            &mut sites,
-            &mut targets,
-            &mut controls,
-            below_site,
-            below_target,
-            below_control,
-            n,
-            g,
-        );
-        i += 1;
+        n = step(list, &mut stacks, n, g);
     }
     close_gaps(list, n)
 }

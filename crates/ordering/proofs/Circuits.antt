@@ -5,8 +5,8 @@ use mathlib.Core.Logic.{◌↔◌}
 use mathlib.Core.List.{List}
 use Prim.Native.Nat.{ℕ, ◌<◌}
 use Rattle.gates.specs.declared.Gate.{Gate}
-use Rattle.ordering.specs.declared.Comparison.{Comparison}
-use Rattle.ordering.specs.declared.Comparison.TheVariants.{Less, Equal}
+use Rattle.std.specs.declared.cmp.Ordering.{Ordering}
+use Rattle.std.specs.declared.cmp.Ordering.TheVariants.{Less, Equal}
 use Rattle.ordering.specs.Comparing.{compare_gates, dictionary, compare_lists}
 use Rattle.ordering.proofs.Orders.{then_equal, then_first, then_second, Orders, self, on_orders, then_orders, dictionary_orders, dictionary_equal}
 use Rattle.ordering.proofs.Gates.{numbers_less, numbers_equal, equal_numbers, numbers_orders, gates_orders, equal_gates}
@@ -22,7 +22,7 @@ unfolding compare_lists
 same_lines n c d = then_second _ _ (numbers_equal refl)
 
 -- the comparison, of pairs of a number of lines and a list
-abbrev pub compare_pairs : ℕ × List Gate → ℕ × List Gate → Comparison
+abbrev pub compare_pairs : ℕ × List Gate → ℕ × List Gate → Ordering
 compare_pairs x y = compare_lists x.0 x.1 y.0 y.1
 
 -- lists on their lines are ordered

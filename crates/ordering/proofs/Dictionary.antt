@@ -7,8 +7,8 @@ use Prim.Native.Nat.{ℕ}
 use Rattle.gates.specs.declared.Gate.{Gate}
 use Rattle.gates.specs.Order.{◌≼◌, none, less, same}
 use Rattle.gates.specs.Reduced.{Reduced}
-use Rattle.ordering.specs.declared.Comparison.{Comparison}
-use Rattle.ordering.specs.declared.Comparison.TheVariants.{Less, Equal, Greater}
+use Rattle.std.specs.declared.cmp.Ordering.{Ordering}
+use Rattle.std.specs.declared.cmp.Ordering.TheVariants.{Less, Equal, Greater}
 use Rattle.ordering.specs.Comparing.{then, compare_gates, dictionary, NotAfter}
 use Rattle.ordering.proofs.Orders.{less_greater, equal_greater, then_first, then_second, self}
 use Rattle.ordering.proofs.Gates.{gates_orders, equal_gates, earlier_gates, gates_earlier}
@@ -22,7 +22,7 @@ there [] d h = none
 there (g ∷ c) [] h = absurd (h refl)
 there (g ∷ c) (k ∷ d) h = go (compare_gates g k) refl (there c d)
   where
-    go : (a : Comparison) → compare_gates g k ≡ a → (dictionary compare_gates c d ≢ Greater → c ≼ d) → (g ∷ c) ≼ (k ∷ d)
+    go : (a : Ordering) → compare_gates g k ≡ a → (dictionary compare_gates c d ≢ Greater → c ≼ d) → (g ∷ c) ≼ (k ∷ d)
     go Less e ih = less (gates_earlier g k e)
     go Equal e ih = rw (equal_gates g k e) (same (ih (λ i. h (then_second _ _ e ∙ i))))
     go Greater e ih = absurd (h (rw e))

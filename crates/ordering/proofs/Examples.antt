@@ -8,7 +8,7 @@ use Rattle.gates.specs.Every.{Every}
 use Rattle.gates.specs.Circuit.{target, slot, power}
 use Rattle.gates.proofs.ReducedLists.{reduced_reduced}
 use Rattle.gates.proofs.Examples.{v, cn, vp, starred_examples}
-use Rattle.ordering.specs.declared.Comparison.TheVariants.{Equal}
+use Rattle.std.specs.declared.cmp.Ordering.TheVariants.{Equal}
 use Rattle.ordering.specs.Comparing.{count_of, then, compare_numbers, compare_gates, dictionary, compare_lists, Compares}
 
 -- two lists, each behind its number of lines, and the count of their comparison

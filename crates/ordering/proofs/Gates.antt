@@ -14,7 +14,7 @@ use Rattle.gates.specs.Code.{code, assembled, gate, gates, Code, AllCodes}
 use Rattle.gates.proofs.Every.{every_map}
 use Rattle.gates.proofs.Codes.{earlier_code, code_injective}
 use Rattle.gates.proofs.CodeLists.{code_gates}
-use Rattle.ordering.specs.declared.Comparison.TheVariants.{Less, Equal, Greater}
+use Rattle.std.specs.declared.cmp.Ordering.TheVariants.{Less, Equal, Greater}
 use Rattle.ordering.specs.Comparing.{turned, then, compare_numbers, compare_gates, dictionary}
 use Rattle.ordering.proofs.Orders.{less_equal, less_greater, equal_greater, ThenLess, by_first, by_second, then_less, then_equal, then_first, then_second, Orders, self, on_orders, then_orders}
 

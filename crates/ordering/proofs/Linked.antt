@@ -9,8 +9,8 @@ use Rattle.gates.specs.Circuit.{AllValid, Linked}
 use Rattle.gates.specs.Reduced.{Reduced}
 use Rattle.gates.proofs.Theorem.{reduced_unique}
 use Rattle.gates.proofs.ReducedLists.{one_reduced_list, linked_exactly_if, reduced_linked}
-use Rattle.ordering.specs.declared.Comparison.{Comparison}
-use Rattle.ordering.specs.declared.Comparison.TheVariants.{Equal, Greater}
+use Rattle.std.specs.declared.cmp.Ordering.{Ordering}
+use Rattle.std.specs.declared.cmp.Ordering.TheVariants.{Equal, Greater}
 use Rattle.ordering.specs.Comparing.{count_of, turned, compare_lists, Compares, NotAfter}
 use Rattle.ordering.proofs.Orders.{count_turned, not_greater_either, not_greater_both, not_greater_chains}
 use Rattle.ordering.proofs.Circuits.{lists_orders, lists_equal}
@@ -22,13 +22,13 @@ pub reduced_compares : {n m : ℕ} {c d r s : List Gate} → Reduced n c r → R
 reduced_compares {r = r} {s} x y = record { first = r; second = s; first_reduced = x; second_reduced = y; compared = refl }
 
 -- a circuit has one reduced list, so two compare in one way
-compares_both : {n m : ℕ} {c d : List Gate} {j k : Comparison} → Compares n c m d j → Compares n c m d k → j ≡ k
+compares_both : {n m : ℕ} {c d : List Gate} {j k : Ordering} → Compares n c m d j → Compares n c m d k → j ≡ k
 compares_both {n} {m} x y =
     sym x.compared
     ∙ rw (reduced_unique n x.first_reduced y.first_reduced, reduced_unique m x.second_reduced y.second_reduced) y.compared
 
 -- two circuits have exactly one answer
-pub compares_one : (n : ℕ) (c : List Gate) (m : ℕ) (d : List Gate) → AllValid n c → AllValid m d → (k : Comparison) × Compares n c m d k × ((j : Comparison) → Compares n c m d j → k ≡ j)
+pub compares_one : (n : ℕ) (c : List Gate) (m : ℕ) (d : List Gate) → AllValid n c → AllValid m d → (k : Ordering) × Compares n c m d k × ((j : Ordering) → Compares n c m d j → k ≡ j)
 compares_one n c m d f h =
     let x = one_reduced_list n c f in
     let y = one_reduced_list m d h in
@@ -36,7 +36,7 @@ compares_one n c m d f h =
     (compare_lists n x.0 m y.0, z, λ j w. compares_both z w)
 
 -- less and greater change places with the circuits
-pub compares_turned : {n m : ℕ} {c d : List Gate} {k : Comparison} → Compares n c m d k → Compares m d n c (turned k)
+pub compares_turned : {n m : ℕ} {c d : List Gate} {k : Ordering} → Compares n c m d k → Compares m d n c (turned k)
 compares_turned {n} {m} x =
     record {
       first = x.second;
@@ -47,7 +47,7 @@ compares_turned {n} {m} x =
     }
 
 -- so do the counts 0 and 2
-pub compares_count_turned : {n m : ℕ} {c d : List Gate} {j k : Comparison} → Compares n c m d j → Compares m d n c k → count_of k ≡ 2 - count_of j
+pub compares_count_turned : {n m : ℕ} {c d : List Gate} {j k : Ordering} → Compares n c m d j → Compares m d n c k → count_of k ≡ 2 - count_of j
 compares_count_turned {j = j} x y = ap count_of (compares_both y (compares_turned x)) ∙ count_turned j
 
 -- ---- the answer is one of linked classes
@@ -57,7 +57,7 @@ same_class : {n m : ℕ} {c d r s : List Gate} → n ≡ m → Reduced n c r →
 same_class {n} e x y = linked_exactly_if n x (rw (← e) at y)
 
 -- "Equal on the same line count must mean linked": equal exactly if the circuits are on the same number of lines and linked
-pub equal_linked : {n m : ℕ} {c d : List Gate} {k : Comparison} → Compares n c m d k → (k ≡ Equal) ↔ ((n ≡ m) × Linked n c d)
+pub equal_linked : {n m : ℕ} {c d : List Gate} {k : Ordering} → Compares n c m d k → (k ≡ Equal) ↔ ((n ≡ m) × Linked n c d)
 equal_linked {n} {m} {c} {d} {k} x = (there, back)
   where
     same : (compare_lists n x.first m x.second ≡ Equal) ↔ ((n ≡ m) × (x.first ≡ x.second))
@@ -70,13 +70,13 @@ equal_linked {n} {m} {c} {d} {k} x = (there, back)
     back q = sym x.compared ∙ same.1 (q.0, (same_class q.0 x.first_reduced x.second_reduced).0 q.1)
 
 -- the answer is kept when a circuit is replaced by a linked one
-pub linked_compares : {n m : ℕ} {c c' d d' : List Gate} {k : Comparison} → Linked n c c' → Linked m d d' → Compares n c m d k → Compares n c' m d' k
+pub linked_compares : {n m : ℕ} {c c' d d' : List Gate} {k : Ordering} → Linked n c c' → Linked m d d' → Compares n c m d k → Compares n c' m d' k
 linked_compares {n} {m} l i x = rw x.compared at (reduced_compares (reduced_linked n l x.first_reduced) (reduced_linked m i x.second_reduced))
 
 -- ---- a total order on linked classes
 
 -- not after is: the answer is not greater
-pub not_after_exactly_if : {n m : ℕ} {c d : List Gate} {k : Comparison} → Compares n c m d k → NotAfter n c m d ↔ (k ≢ Greater)
+pub not_after_exactly_if : {n m : ℕ} {c d : List Gate} {k : Ordering} → Compares n c m d k → NotAfter n c m d ↔ (k ≢ Greater)
 not_after_exactly_if {k = k} x =
     (λ y e. y.not_greater (compares_both y.compares x ∙ e), λ h. record { comparison = k; compares = x; not_greater = h })
 

@@ -5,8 +5,8 @@ use mathlib.Core.Logic.{◌≢◌, ◌⊎◌, inl, inr}
 use mathlib.Core.List.{List, [], ◌∷◌, ◌++◌}
 use Prim.Native.Nat.{ℕ, ◌-◌}
 use native.Mathlib.Omega.{arith}
-use Rattle.ordering.specs.declared.Comparison.{Comparison}
-use Rattle.ordering.specs.declared.Comparison.TheVariants.{Less, Equal, Greater}
+use Rattle.std.specs.declared.cmp.Ordering.{Ordering}
+use Rattle.std.specs.declared.cmp.Ordering.TheVariants.{Less, Equal, Greater}
 use Rattle.ordering.specs.Comparing.{count_of, turned, then, dictionary}
 
 -- ---- comparisons
@@ -22,78 +22,78 @@ pub equal_greater : Equal ≢ Greater
 equal_greater e = let z : ◌≡◌ {A = ℕ} 0 1 = cc in omega arith
 
 -- turned exchanges the counts 0 and 2 and leaves 1
-pub count_turned : (k : Comparison) → count_of (turned k) ≡ 2 - count_of k
+pub count_turned : (k : Ordering) → count_of (turned k) ≡ 2 - count_of k
 unfolding count_of turned
 count_turned Less = refl
 count_turned Equal = refl
 count_turned Greater = refl
 
 -- turning goes through "then"
-turned_then : (a b : Comparison) → turned (then a b) ≡ then (turned a) (turned b)
+turned_then : (a b : Ordering) → turned (then a b) ≡ then (turned a) (turned b)
 unfolding turned then
 turned_then Less b = refl
 turned_then Equal b = refl
 turned_then Greater b = refl
 
 -- only equal is as it is when turned
-turned_self : (k : Comparison) → k ≡ turned k → k ≡ Equal
+turned_self : (k : Ordering) → k ≡ turned k → k ≡ Equal
 unfolding turned
 turned_self Less e = absurd (less_greater e)
 turned_self Equal e = refl
 turned_self Greater e = absurd (less_greater (sym e))
 
 -- a comparison is not greater, or is not greater when turned
-pub not_greater_either : (k : Comparison) → (k ≢ Greater) ⊎ (turned k ≢ Greater)
+pub not_greater_either : (k : Ordering) → (k ≢ Greater) ⊎ (turned k ≢ Greater)
 unfolding turned
 not_greater_either Less = inl less_greater
 not_greater_either Equal = inl equal_greater
 not_greater_either Greater = inr less_greater
 
 -- only equal is not greater both ways
-pub not_greater_both : (k : Comparison) → k ≢ Greater → turned k ≢ Greater → k ≡ Equal
+pub not_greater_both : (k : Ordering) → k ≢ Greater → turned k ≢ Greater → k ≡ Equal
 unfolding turned
 not_greater_both Less h i = absurd (i refl)
 not_greater_both Equal h i = refl
 not_greater_both Greater h i = absurd (h refl)
 
 -- a and then b can be less by a, or by b where a is equal
-pub data ThenLess (a b : Comparison) : Type 0 where
+pub data ThenLess (a b : Ordering) : Type 0 where
   by_first : a ≡ Less → ThenLess a b
   by_second : a ≡ Equal → b ≡ Less → ThenLess a b
 
 -- less is one of the two
-pub then_less : (a b : Comparison) → then a b ≡ Less → ThenLess a b
+pub then_less : (a b : Ordering) → then a b ≡ Less → ThenLess a b
 unfolding then
 then_less Less b e = by_first refl
 then_less Equal b e = by_second refl e
 then_less Greater b e = absurd (less_greater (sym e))
 
 -- equal is equal by both
-pub then_equal : (a b : Comparison) → then a b ≡ Equal → (a ≡ Equal) × (b ≡ Equal)
+pub then_equal : (a b : Ordering) → then a b ≡ Equal → (a ≡ Equal) × (b ≡ Equal)
 unfolding then
 then_equal Less b e = absurd (less_equal e)
 then_equal Equal b e = (refl, e)
 then_equal Greater b e = absurd (equal_greater (sym e))
 
 -- less by the first is less
-pub then_first : (a b : Comparison) → a ≡ Less → then a b ≡ Less
+pub then_first : (a b : Ordering) → a ≡ Less → then a b ≡ Less
 unfolding then
 then_first a b e = rw e
 
 -- equal by the first is as by the second
-pub then_second : (a b : Comparison) → a ≡ Equal → then a b ≡ b
+pub then_second : (a b : Ordering) → a ≡ Equal → then a b ≡ b
 unfolding then
 then_second a b e = rw e
 
 -- ---- what orders
 
 -- f compares as an order does: the answer is turned with the arguments, what is equal compares alike, and less is transitive
-pub record Orders {A : Type 0} (f : A → A → Comparison) : Type 0 where
+pub record Orders {A : Type 0} (f : A → A → Ordering) : Type 0 where
   pub turns : (x y : A) → f y x ≡ turned (f x y)
   pub alike : (x y z : A) → f x y ≡ Equal → f x z ≡ f y z
   pub chains : (x y z : A) → f x y ≡ Less → f y z ≡ Less → f x z ≡ Less
 
-module _ {A : Type 0} {f : A → A → Comparison} (o : Orders f) where
+module _ {A : Type 0} {f : A → A → Ordering} (o : Orders f) where
   -- each is equal to itself
   pub self : (x : A) → f x x ≡ Equal
   self x = turned_self (f x x) (o.turns x x)
@@ -106,7 +106,7 @@ module _ {A : Type 0} {f : A → A → Comparison} (o : Orders f) where
   pub not_greater_chains : (x y z : A) → f x y ≢ Greater → f y z ≢ Greater → f x z ≢ Greater
   not_greater_chains x y z h k = go (f x y) refl (f y z) refl
     where
-      go : (a : Comparison) → f x y ≡ a → (b : Comparison) → f y z ≡ b → f x z ≢ Greater
+      go : (a : Ordering) → f x y ≡ a → (b : Ordering) → f y z ≡ b → f x z ≢ Greater
       go Less d Less e = λ g. less_greater (sym (o.chains x y z d e) ∙ g)
       go Less d Equal e = λ g. h (alike_right x y z e ∙ g)
       go Less d Greater e = absurd (k e)
@@ -114,7 +114,7 @@ module _ {A : Type 0} {f : A → A → Comparison} (o : Orders f) where
       go Greater d b e = absurd (h d)
 
   -- less is transitive by f and then by a second comparison, where it is by the second
-  then_chains : (x y z : A) {a b c : Comparison} → (a ≡ Less → b ≡ Less → c ≡ Less) → then (f x y) a ≡ Less → then (f y z) b ≡ Less → then (f x z) c ≡ Less
+  then_chains : (x y z : A) {a b c : Ordering} → (a ≡ Less → b ≡ Less → c ≡ Less) → then (f x y) a ≡ Less → then (f y z) b ≡ Less → then (f x z) c ≡ Less
   then_chains x y z {a} {b} {c} h d e = go (then_less _ _ d) (then_less _ _ e)
     where
       go : ThenLess (f x y) a → ThenLess (f y z) b → then (f x z) c ≡ Less
@@ -126,7 +126,7 @@ module _ {A : Type 0} {f : A → A → Comparison} (o : Orders f) where
 -- ---- orders made of orders
 
 -- comparing what h makes of the arguments
-pub on_orders : {A B : Type 0} {f : A → A → Comparison} (h : B → A) → Orders f → Orders (λ x y. f (h x) (h y))
+pub on_orders : {A B : Type 0} {f : A → A → Ordering} (h : B → A) → Orders f → Orders (λ x y. f (h x) (h y))
 on_orders h o =
     record {
       turns = λ x y. o.turns (h x) (h y);
@@ -135,7 +135,7 @@ on_orders h o =
     }
 
 -- one comparison, then another
-pub then_orders : {A : Type 0} {f g : A → A → Comparison} → Orders f → Orders g → Orders (λ x y. then (f x y) (g x y))
+pub then_orders : {A : Type 0} {f g : A → A → Ordering} → Orders f → Orders g → Orders (λ x y. then (f x y) (g x y))
 then_orders o p =
     record {
       turns = λ x y. rw (o.turns x y, p.turns x y) (sym (turned_then _ _));
@@ -145,7 +145,7 @@ then_orders o p =
 
 -- ---- the dictionary order of lists
 
-module _ {A : Type 0} {f : A → A → Comparison} (o : Orders f) where
+module _ {A : Type 0} {f : A → A → Ordering} (o : Orders f) where
   -- the first elements that differ decide
   pub first_difference : (u : List A) {x y : A} (l m : List A) → f x y ≡ Less → dictionary f (u ++ x ∷ l) (u ++ y ∷ m) ≡ Less
   unfolding dictionary
@@ -190,7 +190,7 @@ module _ {A : Type 0} {f : A → A → Comparison} (o : Orders f) where
   dictionary_orders = record { turns = dictionary_turns; alike = dictionary_alike; chains = dictionary_chains }
 
 -- only equal lists compare as equal, where that holds of elements
-pub dictionary_equal : {A : Type 0} {f : A → A → Comparison} → ((x y : A) → f x y ≡ Equal → x ≡ y) → (l m : List A) → dictionary f l m ≡ Equal → l ≡ m
+pub dictionary_equal : {A : Type 0} {f : A → A → Ordering} → ((x y : A) → f x y ≡ Equal → x ≡ y) → (l m : List A) → dictionary f l m ≡ Equal → l ≡ m
 unfolding dictionary
 dictionary_equal h [] [] e = refl
 dictionary_equal h [] (y ∷ m) e = absurd (less_equal e)

@@ -2,9 +2,10 @@
 -- list, and the outcome. Assumes nothing.
 use Rattle.std.specs.Prelude.{◌≡◌, cond, List, ℕ, eqb, leb}
 use Rattle.records.specs.declared.Done.{Done}
-use Rattle.records.specs.declared.DoneText.{DoneText}
 use Rattle.records.specs.declared.DoneTwo.{DoneTwo}
 use Rattle.records.specs.declared.Filling.{Filling}
+use Rattle.records.specs.declared.Outcome.{Outcome}
+use Rattle.records.specs.declared.TextOutcome.{TextOutcome}
 use Rattle.records.specs.Records.{Fits}
 use Rattle.text.specs.declared.Refusal.{Refusal}
 use Rattle.text.specs.Refusals.{number_of}
@@ -27,11 +28,11 @@ unfoldable pub success_filling : ℕ → ℕ → List ℕ → Filling
 success_filling m room codes = record { codes = codes; gates = m; limit = room }
 
 -- a refusal at line l
-unfoldable pub refused : Refusal → ℕ → ℕ → List ℕ → Done
+unfoldable pub refused : Refusal → ℕ → ℕ → List ℕ → Done Outcome
 refused r l room codes = record { filling = refusal_filling r room codes; outcome = record { number = number_of r; line = l; gates = 0; bytes = 0 } }
 
 -- success with the first m codes, and this many bytes written
-unfoldable pub succeeded : ℕ → ℕ → ℕ → List ℕ → Done
+unfoldable pub succeeded : ℕ → ℕ → ℕ → List ℕ → Done Outcome
 succeeded m bytes room codes = record { filling = success_filling m room codes; outcome = record { number = 0; line = 0; gates = m; bytes = bytes } }
 
 -- a refusal of a job over two gate lists, at line l of text t
@@ -51,5 +52,5 @@ succeeded_two m n count room room' codes codes' = record {
 }
 
 -- what a job over one text hands over, as one over several texts does: with a text number, and the bytes for the count
-unfoldable pub with_text : (text : ℕ) → Done → DoneText
+unfoldable pub with_text : (text : ℕ) → Done Outcome → Done TextOutcome
 with_text t d = record { filling = d.filling; outcome = record { number = d.outcome.number; line = d.outcome.line; text = t; count = d.outcome.bytes } }

@@ -4,10 +4,10 @@
 ghost use Rattle.std.specs.Prelude.{◌≡◌, cond, leb};
 ghost use Rattle.outcomes.specs.Outcomes.{refusal_filling, success_filling, refused, refused_two, succeeded_two, succeeded, with_text};
 
-use records::{Done, DoneText, DoneTwo, Filling, Outcome, TextOutcome};
-use text::Refusal;
+use records::{Done, DoneTwo, Filling, GATES, Outcome, TextOutcome};
+use text::{Refusal, Refused, TextRefused};
 
-// How many records a refusal writes: none for 1 and 2, else all.
+// How many records a refusal writes: none for 1 and 2 (nor for 0, which is no refusal), else all. It is read off the number, of which the jobs' contracts say it (`limit_of`).
 fn limit(number: u8, room: usize) -> usize
     ensures { result ≡ cond (leb number 2) 0 room }
 {
@@ -18,19 +18,20 @@ fn limit(number: u8, room: usize) -> usize
 }
 
 // What a refusal leaves in a gate list of `room` records: no gates.
-fn refuse_list(r: Refusal, room: usize, codes: [u16; 4096]) -> Filling
+#[tactic(auto, unfolding(crate::specs::Outcomes::refusal_filling))]
+fn refuse_list(r: Refusal, room: usize, codes: [u16; GATES]) -> Filling
     ensures { result ≡ refusal_filling r room codes }
 {
-    let number = text::number(r);
     Filling {
         codes,
         gates: 0,
-        limit: limit(number, room),
+        limit: limit(u8::from(r), room),
     }
 }
 
 // What success leaves in it: the gates of the first m codes.
-fn succeed_list(m: usize, room: usize, codes: [u16; 4096]) -> Filling
+#[tactic(auto, unfolding(crate::specs::Outcomes::success_filling))]
+fn succeed_list(m: usize, room: usize, codes: [u16; GATES]) -> Filling
     ensures { result ≡ success_filling m room codes }
 {
     Filling {
@@ -41,13 +42,14 @@ fn succeed_list(m: usize, room: usize, codes: [u16; 4096]) -> Filling
 }
 
 // A refusal, with its line.
-pub fn refuse(r: Refusal, line: usize, room: usize, codes: [u16; 4096]) -> Done
-    ensures { result ≡ refused r line room codes }
+#[tactic(auto, unfolding(crate::specs::Outcomes::refused))]
+pub fn refuse(r: Refused, room: usize, codes: [u16; GATES]) -> Done<Outcome>
+    ensures { result ≡ refused r.refusal r.line room codes }
 {
-    let filling = refuse_list(r, room, codes);
+    let filling = refuse_list(r.refusal, room, codes);
     let outcome = Outcome {
-        number: text::number(r),
-        line,
+        number: u8::from(r.refusal),
+        line: r.line,
         gates: 0,
         bytes: 0,
     };
@@ -55,38 +57,39 @@ pub fn refuse(r: Refusal, line: usize, room: usize, codes: [u16; 4096]) -> Done
 }
 
 // What a job over one text hands over, as one over several texts does: with a text number, and the bytes for the count.
-pub fn with_text(d: Done, text: u8) -> DoneText
+#[tactic(auto, unfolding(crate::specs::Outcomes::with_text))]
+pub fn with_text(d: Done<Outcome>, text: u8) -> Done<TextOutcome>
     ensures { result ≡ with_text text d }
 {
-    let filling = d.filling;
-    let said = d.outcome;
     let outcome = TextOutcome {
-        number: said.number,
-        line: said.line,
+        number: d.outcome.number,
+        line: d.outcome.line,
         text,
-        count: said.bytes,
+        count: d.outcome.bytes,
     };
-    DoneText { filling, outcome }
+    Done {
+        filling: d.filling,
+        outcome,
+    }
 }
 
-// A refusal of a job over two gate lists, at a line of the text of this number.
+// A refusal of a job over two gate lists.
+#[tactic(auto, unfolding(crate::specs::Outcomes::refused_two))]
 pub fn refuse_two(
-    r: Refusal,
-    text: u8,
-    line: usize,
+    r: TextRefused,
     room: usize,
     room2: usize,
-    codes: [u16; 4096],
-    codes2: [u16; 4096],
+    codes: [u16; GATES],
+    codes2: [u16; GATES],
 ) -> DoneTwo
-    ensures { result ≡ refused_two r text line room room2 codes codes2 }
+    ensures { result ≡ refused_two r.refusal r.text r.line room room2 codes codes2 }
 {
-    let first = refuse_list(r, room, codes);
-    let second = refuse_list(r, room2, codes2);
+    let first = refuse_list(r.refusal, room, codes);
+    let second = refuse_list(r.refusal, room2, codes2);
     let outcome = TextOutcome {
-        number: text::number(r),
-        line,
-        text,
+        number: u8::from(r.refusal),
+        line: r.line,
+        text: r.text,
         count: 0,
     };
     DoneTwo {
@@ -97,14 +100,15 @@ pub fn refuse_two(
 }
 
 // Its success, with the first m codes, the first n, and a count.
+#[tactic(auto, unfolding(crate::specs::Outcomes::succeeded_two))]
 pub fn succeed_two(
     m: usize,
     n: usize,
     count: usize,
     room: usize,
     room2: usize,
-    codes: [u16; 4096],
-    codes2: [u16; 4096],
+    codes: [u16; GATES],
+    codes2: [u16; GATES],
 ) -> DoneTwo
     ensures { result ≡ succeeded_two m n count room room2 codes codes2 }
 {
@@ -124,7 +128,8 @@ pub fn succeed_two(
 }
 
 // Success, with the first so many codes and so many bytes written.
-pub fn succeed(gates: usize, bytes: usize, room: usize, codes: [u16; 4096]) -> Done
+#[tactic(auto, unfolding(crate::specs::Outcomes::succeeded))]
+pub fn succeed(gates: usize, bytes: usize, room: usize, codes: [u16; GATES]) -> Done<Outcome>
     ensures { result ≡ succeeded gates bytes room codes }
 {
     let filling = succeed_list(gates, room, codes);

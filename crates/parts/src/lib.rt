@@ -12,21 +12,16 @@ use gates::Gate;
 fn is_code(k: u16) -> bool
     ensures { Whether (Code 32 k) result }
 {
-    if 4224 <= k {
-        return false;
+    match (k / 4 % 33, k % 4) {
+        _ if 4224 <= k => false,
+        (0, power) => power == 2,
+        (_, 0) => false,
+        (slot, _) => slot != k / 132 + 1,
     }
-    let slot = k / 4 % 33;
-    let power = k % 4;
-    if slot == 0 {
-        return power == 2;
-    }
-    if power == 0 {
-        return false;
-    }
-    slot != k / 132 + 1
 }
 
-// A gate as kind, control and target.
+// A gate as kind, control and target, the three numbers that C sees.
+#[tactic(auto, unfolding(crate::specs::Parts::gate_parts))]
 fn gate_parts(g: Gate) -> [u8; 3]
     ensures { result ≡ gate_parts g }
 {

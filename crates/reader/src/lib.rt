@@ -10,20 +10,22 @@ pub struct Reader<'a> {
     pub place: usize,
 }
 
-// A reader at the front of a text.
-pub fn new<'a>(text: &'a [u8]) -> Reader<'a>
-    ensures { (result.text ≡ text.entry) × (result.place ≡ 0) }
-{
-    Reader { text, place: 0 }
-}
+impl<'a> Reader<'a> {
+    // A reader at the front of a text.
+    pub fn new(text: &'a [u8]) -> Reader<'a>
+        ensures { (result.text ≡ text.entry) × (result.place ≡ 0) }
+    {
+        Reader { text, place: 0 }
+    }
 
-// The reader moved on to a place in its text: the place never falls.
-pub fn moved<'a>(r: Reader<'a>, place: usize) -> Reader<'a>
-    requires { (r.place ≤ place) × (place ≤ length r.text.now) }
-    ensures { (result.text ≡ r.entry.text) × (result.place ≡ place) × (r.entry.place ≤ result.place) }
-{
-    Reader {
-        text: r.text,
-        place,
+    // The reader moved on to a place in its text: the place never falls.
+    pub fn moved(self, place: usize) -> Reader<'a>
+        requires { (self.place ≤ place) × (place ≤ length self.text.now) }
+        ensures { (result.text ≡ self.entry.text) × (result.place ≡ place) × (self.entry.place ≤ result.place) }
+    {
+        Reader {
+            text: self.text,
+            place,
+        }
     }
 }

@@ -1,6 +1,6 @@
 -- The controls of an mct line, read and gathered one after the other: what the loop and one turn of it do. Assumes nothing.
 use mathlib.Core.Path.{◌≡◌, refl}
-use mathlib.Core.Bool.{true, false}
+use mathlib.Core.Bool.{Bool, true, false}
 use mathlib.Core.List.{List, ◌∷◌}
 use Prim.Native.Nat.{ℕ, zero, suc, ◌-◌, ◌≤◌, ◌<◌}
 use native.Mathlib.Omega.{arith}
@@ -25,13 +25,15 @@ module _ (s : List ℕ) (a : Controls) where
   rest_none zero p e = refl
   rest_none (suc k) p e = rw e
 
-  pub rest_last : (k p q : ℕ) (c : Control) → control (drop p s) ≡ got (c, false) (drop q s) → p < length s → length s - p ≤ k → rest k p ≡ got (noted a c) (drop q s)
-  unfolding controls noted_all
-  rest_last zero p q c e h l = absurd (omega arith)
-  rest_last (suc k) p q c e h l = rw e
+  -- a control x was read, and whether another comes after it
+  module _ (x : Control × Bool) where
+    pub rest_last : (k p q : ℕ) → control (drop p s) ≡ got x (drop q s) → x.1 ≡ false → p < length s → length s - p ≤ k → rest k p ≡ got (noted a x.0) (drop q s)
+    unfolding controls noted_all
+    rest_last zero p q e f h l = absurd (omega arith)
+    rest_last (suc k) p q e f h l = rw (e, f)
 
-  pub rest_more : (k p q : ℕ) (c : Control) → control (drop p s) ≡ got (c, true) (drop q s) → p < length s → length s - p ≤ k
-      → (j : ℕ) × (k ≡ suc j) × (rest k p ≡ bind (controls j (drop q s)) (λ cs. got (noted_all (noted a c) cs)))
-  unfolding controls
-  rest_more zero p q c e h l = absurd (omega arith)
-  rest_more (suc k) p q c e h l = (k, refl, rw e (noted_first c (controls k (drop q s))))
+    pub rest_more : (k p q : ℕ) → control (drop p s) ≡ got x (drop q s) → x.1 ≡ true → p < length s → length s - p ≤ k
+        → (j : ℕ) × (k ≡ suc j) × (rest k p ≡ bind (controls j (drop q s)) (λ cs. got (noted_all (noted a x.0) cs)))
+    unfolding controls
+    rest_more zero p q e f h l = absurd (omega arith)
+    rest_more (suc k) p q e f h l = (k, refl, rw (e, f) (noted_first x.0 (controls k (drop q s))))

@@ -4,27 +4,25 @@ use mathlib.Core.Logic.{◌≢◌}
 use mathlib.Core.Bool.{Bool, true, false, cond, not, ◌&&◌, ◌||◌, and-eq-true_iff}
 use mathlib.Core.List.{List, [], ◌∷◌}
 use native.Mathlib.Omega.{arith}
-use Prim.Native.Nat.{ℕ, ◌≤◌}
+use Prim.Native.Nat.{ℕ, ◌+◌, ◌≤◌}
 use lib.Dec.{eqb}
-use lib.ListN.{length, drop}
+use lib.ListN.{length, drop, length-drop, length-append}
 use borrow.Author.Tests.{eq-eqb, ne_eqb, eqb-true}
-use Rattle.gates.specs.declared.Gate.{Gate}
 use Rattle.gates.specs.declared.Gate.TheVariants.{Not, Powered}
 use Rattle.cascades.specs.declared.Control.{Control}
 use Rattle.cascades.specs.Control.{control_lines, negated_lines}
 use Rattle.text.specs.Text.{Form, lines, keep, gate, mct, bytes}
 use Rattle.text.specs.Heads.{unkept}
 use Rattle.text.specs.Reading.{Got, got, none, bind, if_got, strip, num, tail, pair, with_sign, signed, control, controls, list, many, without_sign, numbers, lines_body, keep_body, not_body, mct_body, powered_body, parse}
-use Rattle.text.proofs.Printed.{none_got, no_signs}
+use Rattle.text.proofs.Printed.{none_got, no_signs, strip_sound}
 use Rattle.gathering.proofs.Gathered.{negated_are}
 use Rattle.gathering.specs.declared.Controls.{Controls}
-use Rattle.reading.specs.declared.ControlForm.{ControlForm}
-use Rattle.reading.specs.declared.ControlForm.TheVariants as control_form
-use Rattle.tokens.specs.declared.Found.{Found}
-use Rattle.tokens.specs.declared.Found.TheVariants as found
-use Rattle.tokens.specs.Seen.{delimited, found_tells}
+use Rattle.std.proofs.Common.{Option, Some, None}
+use Rattle.tokens.specs.declared.Parsed.{Parsed}
+use Rattle.tokens.specs.Seen.{delimited, tells}
+use Rattle.reading.specs.declared.Mct.{Mct}
 use Rattle.gathering.specs.Gathering.{gathered}
-use Rattle.reading.specs.Seen.{control_tells, only_head, only_keep, only_gate, only_mct, all_gathered, with_gathered, kept_gathered, followed, two_after, or_powered}
+use Rattle.reading.specs.Seen.{only_head, only_keep, only_gate, only_mct, all_gathered, with_gathered, kept_gathered, followed, two_after, powered_after}
 
 -- ---- a text begins with at most one of two words that differ at a place that both have
 
@@ -50,6 +48,12 @@ strip_differ (a ∷ v) (b ∷ w) (c ∷ s) r d e = go (strip_differ v w s r) (eq
     go f true p h true q =
         let i : a ≡ b = sym (eqb-true c a p) ∙ eqb-true c b q in
         f (rw (eq-eqb a b i) at d) h
+
+-- the place after a word is as many bytes further
+pub word_end : (s w : List ℕ) (at next : ℕ) → strip w (drop at s) ≡ got tt (drop next s) → at ≤ length s → next ≤ length s → next ≡ at + length w
+word_end s w at next e h l =
+    let n = ap (λ (x : List ℕ). length x) (strip_sound w (drop at s) (drop next s) e) in
+    omega (arith, n, length-append w (drop next s), length-drop at s, length-drop next s, h, l)
 
 -- ---- words, each with what stands after it
 
@@ -98,11 +102,10 @@ word_line (x ∷ t) s d =
 
 -- ---- the parts of a line
 
--- a control that was found from a later place on
-pub control_further : (s : List ℕ) (at p : ℕ) (g h : Got (Control × Bool)) (r : ControlForm) → at ≤ p → g ≡ h → control_tells s p h r → control_tells s at g r
-control_further s at p g h (control_form.More c next) l e w = (e ∙ w.0, (omega (arith, l, w.1.0), w.1.1))
-control_further s at p g h (control_form.Last c next) l e w = (e ∙ w.0, (omega (arith, l, w.1.0), w.1.1))
-control_further s at p g h control_form.Missing l e w = e ∙ w
+-- what was found from a later place on
+pub further : {A : Type 0} (s : List ℕ) (at p : ℕ) (g h : Got A) (r : Option (Parsed A)) → at ≤ p → g ≡ h → tells s p h r → tells s at g r
+further s at p g h (Some x) l e w = (e ∙ w.0, (omega (arith, l, w.1.0), w.1.1))
+further s at p g h None l e w = e ∙ w
 
 module _ {A B C : Type 0} where
   -- a function goes below the first step of a parse
@@ -245,43 +248,36 @@ module _ (s : List ℕ) (at : ℕ) {r : List ℕ} {a : Controls} (q : ℕ) (k : 
       go (got u t) = rw (ne_eqb a.negated.count 0 n)
       go none = refl
 
-  pub keep_found : a.negated.count ≡ 0 → at ≤ q → (f : Found) → found_tells s q (strip (bytes "\n") (drop q s)) tt f → found_tells s at (kept_gathered (only_keep (parse (drop at s)))) a f
-  keep_found z h (found.At next) w = (keep_ends ∙ rw (w.0, eq-eqb a.negated.count 0 z), omega (arith, h, w.1), w.2)
-  keep_found z h found.Missing w = keep_ends ∙ rw w
+  pub keep_unended : a.negated.count ≡ 0 → strip (bytes "\n") (drop q s) ≡ none → kept_gathered (only_keep (parse (drop at s))) ≡ none
+  keep_unended z e = keep_ends ∙ rw e
 
--- three rows of the kind, the first got before the others are tried
-in_turn : {B : Type 0} (x y z : Got B) → if_got x got (if_got y got (if_got z got none)) ≡ if_got (if_got x got y) got z
-in_turn (got a s) y z = refl
-in_turn none (got a s) z = refl
-in_turn none none z = or_none z
+  pub keep_found : a.negated.count ≡ 0 → (next : ℕ) → strip (bytes "\n") (drop q s) ≡ got tt (drop next s) → kept_gathered (only_keep (parse (drop at s))) ≡ got a (drop next s)
+  keep_found z next e = keep_ends ∙ rw (e, eq-eqb a.negated.count 0 z)
 
 module _ (s : List ℕ) where
   -- the row of a power, and how the reader takes it
-  abbrev powered_row : List ℕ → ℕ → Got Gate
-  powered_row w p = bind (strip w s) (λ _ r. bind (pair r) (λ c. got (Powered p c.0 c.1)))
-
-  abbrev powered_read : List ℕ → ℕ → Got Gate
-  powered_read w p = bind (two_after w s) (λ c. got (Powered p c.0 c.1))
-
-  row_read : (w : List ℕ) (p : ℕ) → powered_row w p ≡ powered_read w p
-  unfolding two_after
+  row_read : (w : List ℕ) (p : ℕ) → bind (strip w s) (λ _ r. bind (pair r) (λ c. got (Powered p c.0 c.1))) ≡ powered_after w p s
+  unfolding two_after powered_after
   row_read w p = sym (steps _ (strip w s) _ _ (λ _ r. refl))
 
-  pub gate_is : only_gate (parse s) ≡ if_got (delimited (bytes "(not ") (bytes ")\n") s) (λ t. got (Not t)) (or_powered (or_powered (or_powered none (bytes "(cn ") 2 s) (bytes "(v ") 1 s) (bytes "(vp ") 3 s)
-  unfolding only_gate by_line rows delimited tail or_powered
+  pub gate_is : only_gate (parse s) ≡ if_got (delimited (bytes "(not ") (bytes ")\n") s) (λ t. got (Not t)) (if_got (powered_after (bytes "(cn ") 2 s) got (if_got (powered_after (bytes "(v ") 1 s) got (powered_after (bytes "(vp ") 3 s)))
+  unfolding only_gate by_line rows delimited tail
   gate_is =
       only_parse only_gate refl s
       ∙ simp other_row
       (own_row (strip (bytes "(not ") s) tail Not _
-      ∙ ap (λ (z : Got Gate). if_got (bind (strip (bytes "(not ") s) (λ _. tail)) (λ t. got (Not t)) z)
-      (in_turn (powered_row (bytes "(cn ") 2) (powered_row (bytes "(v ") 1) (powered_row (bytes "(vp ") 3) ∙ rw (row_read (bytes "(cn ") 2, row_read (bytes "(v ") 1, row_read (bytes "(vp ") 3)))
+      ∙ rw (or_none, row_read (bytes "(cn ") 2, row_read (bytes "(v ") 1, row_read (bytes "(vp ") 3))
 
-many_gathered : (s : List ℕ) → bind {B = Controls × ℕ} (many s) (λ p. got (gathered p.0, p.1)) ≡ bind (all_gathered (list s)) (λ a r. bind (delimited (bytes " ") (bytes ")\n") r) (λ t. got (a, t)))
+-- what is read of a line of a cascade
+abbrev pub mct_of : Controls → ℕ → Mct
+mct_of a t = record { controls = a; target = t }
+
+many_gathered : (s : List ℕ) → bind (many s) (λ p. got (mct_of (gathered p.0) p.1)) ≡ bind (all_gathered (list s)) (λ a r. bind (delimited (bytes " ") (bytes ")\n") r) (λ t. got (mct_of a t)))
 unfolding many all_gathered delimited tail
 many_gathered s =
     steps _ (list s) _ _ (λ cs r. steps _ (strip (bytes " ") r) _ _ (λ _ q. steps _ (tail q) _ _ (λ t e. refl)))
     ∙ sym (steps _ (list s) _ _ (λ cs r. steps _ (strip (bytes " ") r) _ _ (λ _ q. refl)))
 
-pub mct_is : (s : List ℕ) → with_gathered (only_mct (parse s)) ≡ bind (strip (bytes "(mct (") s) (λ _ r. bind (all_gathered (list r)) (λ a q. bind (delimited (bytes " ") (bytes ")\n") q) (λ t. got (a, t))))
+pub mct_is : (s : List ℕ) → with_gathered (only_mct (parse s)) ≡ bind (strip (bytes "(mct (") s) (λ _ r. bind (all_gathered (list r)) (λ a q. bind (delimited (bytes " ") (bytes ")\n") q) (λ t. got (mct_of a t))))
 unfolding only_mct with_gathered by_line rows
 mct_is s = only_parse (λ g. with_gathered (only_mct g)) refl s ∙ simp other_row (or_none _ ∙ below (λ g. g) refl (strip (bytes "(mct (") s) _ _ (λ _ r. many_gathered r))

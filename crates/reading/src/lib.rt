@@ -1,253 +1,184 @@
 // The cursor: a line is read at a place of the text, and the place after it is given.
 #![tactic(auto)]
 
-ghost use Rattle.std.specs.Prelude.{◌≡◌, ◌≤◌, length, drop};
+ghost use Rattle.std.specs.Prelude.{◌≤◌, length, drop};
 ghost use Rattle.text.specs.Reading.{control, controls, list, parse};
-ghost use Rattle.reading.specs.Seen.{only_head, only_keep, only_gate, only_mct, all_gathered, with_gathered, kept_gathered, followed, two_after, or_powered};
-ghost use Rattle.tokens.specs.Seen.{found_tells};
-ghost use Rattle.reading.specs.Seen.{pair_tells, control_tells};
-ghost use Rattle.reading.specs.Seen.{seen_head, seen_gate, seen_mct, head_ahead, gate_ahead, mct_ahead};
+ghost use Rattle.tokens.specs.Seen.{tells};
+ghost use Rattle.reading.specs.Seen.{only_head, only_keep, only_gate, only_mct, all_gathered, with_gathered, kept_gathered, followed, two_after, powered_after};
 
 use cascades::Control;
 use gates::Gate;
 use gathering::Controls;
-use tokens::{Found, Number};
+use text::Head;
+use tokens::Parsed;
 
-// Two numbers and the place after them.
+// What is read of a line of a cascade: what is kept of its controls, and its target.
 #[derive(Clone, Copy)]
-pub enum Pair {
-    Are(u8, u8, usize),
-    Missing,
-}
-
-// A control and the place after the space or the bracket that follows it: more controls come after a space.
-#[derive(Clone, Copy)]
-pub enum ControlForm {
-    More(Control, usize),
-    Last(Control, usize),
-    Missing,
-}
-
-// The place after the controls, beside what is kept of them.
-#[derive(Clone, Copy)]
-pub struct Bracketed {
-    pub end: Found,
+pub struct Mct {
     pub controls: Controls,
-}
-
-// A line of a circuit and the place after it.
-#[derive(Clone, Copy)]
-pub enum GateForm {
-    Is(Gate, usize),
-    Malformed,
-}
-
-// A line of a cascade: its target and the place after it, beside what is kept of its controls.
-#[derive(Clone, Copy)]
-pub enum TargetForm {
-    Is(u8, usize),
-    Malformed,
-}
-
-#[derive(Clone, Copy)]
-pub struct MctForm {
-    pub target: TargetForm,
-    pub controls: Controls,
-}
-
-// Line 1 of a text and the place after it.
-#[derive(Clone, Copy)]
-pub enum HeadForm {
-    Is(text::Head, usize),
-    Malformed,
+    pub target: u8,
 }
 
 // Fixed bytes, then `c t)` and the line's end.
-fn two_numbers(s: &[u8], at: usize, w: &[u8]) -> Pair
+fn two_numbers(s: &[u8], at: usize, w: &[u8]) -> Option<Parsed<(u8, u8)>>
     requires { at ≤ length s.now }
-    ensures { pair_tells s.now at (two_after w.now (drop at s.now)) result }
+    ensures { tells s.now at (two_after w.now (drop at s.now)) result }
 {
-    let Number::Is(c, p) = tokens::delimited_number(s, at, w, b"") else {
-        return Pair::Missing;
-    };
-    let Number::Is(t, e) = tokens::delimited_number(s, p, b" ", b")\n") else {
-        return Pair::Missing;
-    };
-    Pair::Are(c, t, e)
+    let c = tokens::delimited_number(s, at, w, b"")?;
+    let t = tokens::delimited_number(s, c.end, b" ", b")\n")?;
+    Some(Parsed {
+        value: (c.value, t.value),
+        end: t.end,
+    })
 }
 
-// The number of a control, whose sign has been read, and the space or the bracket after it.
-fn control_number(s: &[u8], at: usize, negated: bool) -> ControlForm
+// The number of a control, whose sign has been read, and the space or the bracket after it: more controls come after a space.
+fn control_number(s: &[u8], at: usize, negated: bool) -> Option<Parsed<(Control, bool)>>
     requires { at ≤ length s.now }
-    ensures { control_tells s.now at (followed negated (drop at s.now)) result }
+    ensures { tells s.now at (followed negated (drop at s.now)) result }
 {
-    if let Number::Is(line, q) = tokens::delimited_number(s, at, b"", b" ") {
-        return ControlForm::More(Control { line, negated }, q);
+    if let Some(line) = tokens::delimited_number(s, at, b"", b" ") {
+        let control = Control {
+            line: line.value,
+            negated,
+        };
+        return Some(Parsed {
+            value: (control, true),
+            end: line.end,
+        });
     }
-    let Number::Is(line, q) = tokens::delimited_number(s, at, b"", b")") else {
-        return ControlForm::Missing;
+    let line = tokens::delimited_number(s, at, b"", b")")?;
+    let control = Control {
+        line: line.value,
+        negated,
     };
-    ControlForm::Last(Control { line, negated }, q)
+    Some(Parsed {
+        value: (control, false),
+        end: line.end,
+    })
 }
 
 // A control, with a minus sign directly before it or none.
-fn one_control(s: &[u8], at: usize) -> ControlForm
+fn one_control(s: &[u8], at: usize) -> Option<Parsed<(Control, bool)>>
     requires { at ≤ length s.now }
-    ensures { control_tells s.now at (control (drop at s.now)) result }
+    ensures { tells s.now at (control (drop at s.now)) result }
 {
-    if let Found::At(p) = tokens::word(s, at, b"-") {
+    if let Some(p) = tokens::word(s, at, b"-") {
         return control_number(s, p, true);
     }
     control_number(s, at, false)
 }
 
 // The controls up to the bracket, of which there is at least one.
-fn gather(s: &[u8], at: usize) -> Bracketed
+fn gather(s: &[u8], at: usize) -> Option<Parsed<Controls>>
     requires { at ≤ length s.now }
-    ensures { found_tells s.now at (all_gathered (controls (length (drop at s.now)) (drop at s.now))) result.controls result.end }
+    ensures { tells s.now at (all_gathered (controls (length (drop at s.now)) (drop at s.now))) result }
 {
     let mut sum = gathering::no_controls();
     let mut p = at;
     loop {
-        match one_control(s, p) {
-            ControlForm::More(c, q) => {
-                sum = gathering::note(sum, c);
-                p = q;
-            }
-            ControlForm::Last(c, q) => {
-                return Bracketed {
-                    end: Found::At(q),
-                    controls: gathering::note(sum, c),
-                };
-            }
-            ControlForm::Missing => {
-                return Bracketed {
-                    end: Found::Missing,
-                    controls: sum,
-                };
-            }
+        let c = one_control(s, p)?;
+        let (control, more) = c.value;
+        sum = gathering::note(sum, control);
+        p = c.end;
+        if !more {
+            return Some(Parsed { value: sum, end: p });
         }
     }
 }
 
 // The controls up to the bracket: none, or some.
-fn listed(s: &[u8], at: usize) -> Bracketed
+fn listed(s: &[u8], at: usize) -> Option<Parsed<Controls>>
     requires { at ≤ length s.now }
-    ensures { found_tells s.now at (all_gathered (list (drop at s.now))) result.controls result.end }
+    ensures { tells s.now at (all_gathered (list (drop at s.now))) result }
 {
-    if let Found::At(p) = tokens::word(s, at, b")") {
-        return Bracketed {
-            end: Found::At(p),
-            controls: gathering::no_controls(),
-        };
+    if let Some(end) = tokens::word(s, at, b")") {
+        return Some(Parsed {
+            value: gathering::no_controls(),
+            end,
+        });
     }
     gather(s, at)
 }
 
-// The line found before, else the gate of a power after its word `w`.
-fn powered_line(s: &[u8], at: usize, w: &[u8], power: u8, before: GateForm) -> GateForm
-    requires at_in_bounds { at ≤ length s.now }
-    requires gate_ahead { gate_ahead s.now at before }
-    ensures result_value { seen_gate s.now result ≡ or_powered (seen_gate s.now before) w.now power (drop at s.now) }
-    ensures gate_ahead_2 { gate_ahead s.now at result }
+// The gate of a power after its word `w`.
+fn powered_line(s: &[u8], at: usize, w: &[u8], power: u8) -> Option<Parsed<Gate>>
+    requires { at ≤ length s.now }
+    ensures { tells s.now at (powered_after w.now power (drop at s.now)) result }
 {
-    let GateForm::Malformed = before else {
-        return before;
-    };
-    let Pair::Are(c, t, e) = two_numbers(s, at, w) else {
-        return GateForm::Malformed;
-    };
-    GateForm::Is(Gate::Powered(power, c, t), e)
+    let lines = two_numbers(s, at, w)?;
+    let (c, t) = lines.value;
+    Some(Parsed {
+        value: Gate::Powered(power, c, t),
+        end: lines.end,
+    })
 }
 
 // Line 1 of a text.
-pub fn read_head(s: &[u8], at: usize) -> HeadForm
+pub fn read_head(s: &[u8], at: usize) -> Option<Parsed<Head>>
     requires { at ≤ length s.now }
-    ensures result_value { seen_head s.now result ≡ only_head (parse (drop at s.now)) }
-    ensures head_ahead { head_ahead s.now at result }
+    ensures { tells s.now at (only_head (parse (drop at s.now))) result }
 {
-    let Number::Is(n, e) = tokens::delimited_number(s, at, &text::LINES, b")\n") else {
-        return HeadForm::Malformed;
-    };
-    HeadForm::Is(text::Head { lines: n, kept: 0 }, e)
+    let n = tokens::delimited_number(s, at, &text::LINES, b")\n")?;
+    Some(Parsed {
+        value: Head {
+            lines: n.value,
+            kept: 0,
+        },
+        end: n.end,
+    })
 }
 
 // A keep line: numbers without a sign, at least one, gathered as controls are.
-pub fn read_keep(s: &[u8], at: usize) -> Bracketed
+pub fn read_keep(s: &[u8], at: usize) -> Option<Parsed<Controls>>
     requires { at ≤ length s.now }
-    ensures { found_tells s.now at (kept_gathered (only_keep (parse (drop at s.now)))) result.controls result.end }
+    ensures { tells s.now at (kept_gathered (only_keep (parse (drop at s.now)))) result }
 {
-    let Found::At(p) = tokens::word(s, at, &text::KEEP) else {
-        return Bracketed {
-            end: Found::Missing,
-            controls: gathering::no_controls(),
-        };
-    };
-    let g = gather(s, p);
-    let controls = g.controls;
-    let bracket = g.end;
-    let Found::At(q) = bracket else {
-        return Bracketed {
-            end: Found::Missing,
-            controls,
-        };
-    };
-    let negated = controls.negated;
-    if negated.count != 0 {
-        return Bracketed {
-            end: Found::Missing,
-            controls,
-        };
+    let start = tokens::word(s, at, &text::KEEP)?;
+    let numbers = gather(s, start)?;
+    if numbers.value.negated.count != 0 {
+        return None;
     }
-    Bracketed {
-        end: tokens::word(s, q, b"\n"),
-        controls,
-    }
+    let end = tokens::word(s, numbers.end, b"\n")?;
+    Some(Parsed {
+        value: numbers.value,
+        end,
+    })
 }
 
 // A line of a circuit: it begins with at most one of the four words.
-pub fn read_gate(s: &[u8], at: usize) -> GateForm
+pub fn read_gate(s: &[u8], at: usize) -> Option<Parsed<Gate>>
     requires { at ≤ length s.now }
-    ensures result_value { seen_gate s.now result ≡ only_gate (parse (drop at s.now)) }
-    ensures gate_ahead { gate_ahead s.now at result }
+    ensures { tells s.now at (only_gate (parse (drop at s.now))) result }
 {
-    if let Number::Is(t, e) = tokens::delimited_number(s, at, &text::NOT, b")\n") {
-        return GateForm::Is(Gate::Not(t), e);
+    if let Some(t) = tokens::delimited_number(s, at, &text::NOT, b")\n") {
+        return Some(Parsed {
+            value: Gate::Not(t.value),
+            end: t.end,
+        });
     }
-    let cn = powered_line(s, at, &text::CN, 2, GateForm::Malformed);
-    let v = powered_line(s, at, &text::V, 1, cn);
-    powered_line(s, at, &text::VP, 3, v)
+    if let Some(g) = powered_line(s, at, &text::CN, 2) {
+        return Some(g);
+    }
+    if let Some(g) = powered_line(s, at, &text::V, 1) {
+        return Some(g);
+    }
+    powered_line(s, at, &text::VP, 3)
 }
 
 // A line of a cascade.
-pub fn read_mct(s: &[u8], at: usize) -> MctForm
+pub fn read_mct(s: &[u8], at: usize) -> Option<Parsed<Mct>>
     requires { at ≤ length s.now }
-    ensures result_value { seen_mct s.now result ≡ with_gathered (only_mct (parse (drop at s.now))) }
-    ensures mct_ahead { mct_ahead s.now at result.target }
+    ensures { tells s.now at (with_gathered (only_mct (parse (drop at s.now)))) result }
 {
-    let Found::At(p) = tokens::word(s, at, &text::MCT) else {
-        return MctForm {
-            target: TargetForm::Malformed,
-            controls: gathering::no_controls(),
-        };
-    };
-    let g = listed(s, p);
-    let controls = g.controls;
-    let bracket = g.end;
-    let Found::At(q) = bracket else {
-        return MctForm {
-            target: TargetForm::Malformed,
-            controls,
-        };
-    };
-    let Number::Is(t, e) = tokens::delimited_number(s, q, b" ", b")\n") else {
-        return MctForm {
-            target: TargetForm::Malformed,
-            controls,
-        };
-    };
-    MctForm {
-        target: TargetForm::Is(t, e),
-        controls,
-    }
+    let start = tokens::word(s, at, &text::MCT)?;
+    let controls = listed(s, start)?;
+    let target = tokens::delimited_number(s, controls.end, b" ", b")\n")?;
+    Some(Parsed {
+        value: Mct {
+            controls: controls.value,
+            target: target.value,
+        },
+        end: target.end,
+    })
 }

@@ -1,23 +1,19 @@
--- A list that is written over from the front, one element a turn; what `store` writes at each place; and that a code among the first
--- `count` is the number of a gate. Assumes nothing.
-use mathlib.Core.Path.{◌≡◌, refl, sym, ap, ◌∙◌}
-use mathlib.Core.Bool.{Bool, cond}
-use mathlib.Core.List.{List, [], ◌∷◌, ◌++◌}
-use borrow.Author.Tests.{le-ltb, lt-ltb}
-use Prim.Native.Nat.compare
-use Prim.Native.Nat.{ℕ, zero, suc, ◌+◌, ◌-◌, ◌<◌, ◌≤◌, zero-le}
-use native.Mathlib.Nat.{zero-add, not-suc-le-zero, le_of_suc-le-suc}
+-- A list that is written over from the front, one element a turn; what `store` writes at each place; and that each code that is written is
+-- the number of a gate. Assumes nothing.
+use mathlib.Core.Path.{◌≡◌, refl, ap, ◌∙◌}
+use mathlib.Core.List.{List, [], ◌∷◌, ◌++◌, map-append}
+use Prim.Native.Nat.{ℕ, zero, suc, ◌+◌, ◌-◌, ◌<◌, ◌≤◌}
+use native.Mathlib.Nat.{zero-add}
 use native.Mathlib.Numerals.{add-one}
 use native.Mathlib.Omega.{arith}
-use lib.Dec.{is_le}
-use lib.ListN.{length, get_or, set, take, drop, replicate, length-append, length-replicate}
+use lib.ListN.{length, get_or, set, take, drop, replicate, get_or-map, length-append, length-replicate}
 use lib.Seq.{length-take-le, paste-suc}
-use Rattle.gates.specs.declared.Gate.{Gate}
+use Rattle.std.proofs.lemmas.List.{length-map}
 use Rattle.gates.specs.declared.Gate.TheVariants.{Not}
-use Rattle.gates.specs.Code.{gate, gates}
-use Rattle.gates.proofs.Codes.{below}
-use Rattle.gates.proofs.CodeLists.{length_gates, code_in_front}
-use Rattle.records.specs.Records.{record_at, front, Coded}
+use Rattle.gates.specs.Circuit.{valid_not}
+use Rattle.gates.specs.Code.{assembled, gate, gates, Code, AllCodes}
+use Rattle.gates.proofs.Codes.{code_not, code_code}
+use Rattle.records.specs.Records.{not_0, padded, front}
 
 -- ---- a list written over from the front
 
@@ -32,27 +28,43 @@ module _ {A : Type 0} where
 
 -- ---- what `store` writes
 
-replicated_at : (m i : ℕ) (g : Gate) → get_or (replicate m g) i g ≡ g
-replicated_at zero i g = refl
-replicated_at (suc m) zero g = refl
-replicated_at (suc m) (suc i) g = replicated_at m i g
+padded_at : (l : List ℕ) (m i d : ℕ) → get_or (l ++ replicate m d) i d ≡ get_or l i d
+padded_at [] zero i d = refl
+padded_at [] (suc m) zero d = refl
+padded_at [] (suc m) (suc i) d = padded_at [] m i d
+padded_at (k ∷ l) m zero d = refl
+padded_at (k ∷ l) m (suc i) d = padded_at l m i d
 
-filled_at : (codes : List ℕ) (count m i : ℕ) → count ≤ length codes → get_or (gates (take count codes) ++ replicate m (Not 0)) i (Not 0) ≡ record_at codes count i
-filled_at codes zero m i h = replicated_at m i (Not 0) ∙ sym (ap (λ (b : Bool). cond b (gate (get_or codes i 0)) (Not 0)) (le-ltb i 0 zero-le))
-filled_at [] (suc count) m i h = absurd (not-suc-le-zero h)
-filled_at (k ∷ codes) (suc count) m zero h = sym (ap (λ (b : Bool). cond b (gate k) (Not 0)) (lt-ltb 0 (suc count) (omega arith)))
-filled_at (k ∷ codes) (suc count) m (suc i) h =
-    filled_at codes count m i (le_of_suc-le-suc h) ∙ sym (ap (λ (b : Bool). cond b (gate (get_or codes i 0)) (Not 0)) (ap is_le (compare.suc-suc (suc i) count)))
+module _ {A : Type 0} (of : ℕ → A) (codes : List ℕ) (room : ℕ) where
+  -- record i
+  pub record_at : (i : ℕ) → get_or (padded of codes room) i (of not_0) ≡ of (get_or codes i not_0)
+  record_at i = get_or-map of (codes ++ replicate (room - length codes) not_0) i not_0 ∙ ap of (padded_at codes (room - length codes) i not_0)
 
-pub front_at : (codes : List ℕ) (count limit i : ℕ) → count ≤ length codes → get_or (front codes count limit) i (Not 0) ≡ record_at codes count i
-front_at codes count limit i h = filled_at codes count (limit - count) i h
+  pub length_padded : length codes ≤ room → length (padded of codes room) ≡ room
+  length_padded h =
+      length-map (codes ++ replicate (room - length codes) not_0) of
+      ∙ length-append codes (replicate (room - length codes) not_0)
+      ∙ omega (arith, h, length-replicate (room - length codes) not_0)
 
-pub length_front : (codes : List ℕ) (count limit : ℕ) → count ≤ limit → count ≤ length codes → length (front codes count limit) ≡ limit
-length_front codes count limit h k =
-    length-append (gates (take count codes)) (replicate (limit - count) (Not 0))
-    ∙ omega (arith, h, length_gates (take count codes), length-take-le count codes k, length-replicate (limit - count) (Not 0))
+-- `not 0` is the gate of its number
+not_0_gate : gate not_0 ≡ Not 0
+unfolding gate assembled
+not_0_gate = refl
 
--- ---- the codes
+not_0_code : Code 32 not_0
+not_0_code = rw (code_not 0) (code_code {n = 32} {g = Not 0} (omega arith) (valid_not (omega arith)))
 
-pub code_small : (codes : List ℕ) (count i : ℕ) → Coded codes count → i < count → get_or codes i 0 < 4224
-code_small codes count i c h = below (omega arith) (code_in_front 32 codes count i 0 h c.there c.valid)
+not_0_gates : (m : ℕ) → gates (replicate m not_0) ≡ replicate m (Not 0)
+not_0_gates zero = refl
+not_0_gates (suc m) = rw (not_0_gate, not_0_gates m)
+
+-- each code, also behind the last, is the number of a gate
+pub code_behind : (codes : List ℕ) (i : ℕ) → AllCodes 32 codes → Code 32 (get_or codes i not_0)
+code_behind [] i h = not_0_code
+code_behind (k ∷ codes) zero h = h.0
+code_behind (k ∷ codes) (suc i) h = code_behind codes i h.1
+
+-- the gates of codes and of `not 0`
+pub padded_front : (codes : List ℕ) (count limit room : ℕ) → count ≤ length codes → room ≡ limit → padded gate (take count codes) room ≡ front codes count limit
+padded_front codes count limit room h e =
+    map-append gate (take count codes) (replicate (room - length (take count codes)) not_0) ∙ rw (length-take-le count codes h, e, not_0_gates (limit - count))

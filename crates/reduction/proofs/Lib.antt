@@ -1,3 +1,2 @@
 -- The laws and theorems of this crate, in reading order.
-pub mod Places
 pub mod Steps

@@ -2,33 +2,21 @@
 // pushed at their end, which leaves a circuit with the fewest gates of those linked to the list; and this is brought into dictionary order.
 #![tactic(auto)]
 
-ghost use Rattle.std.specs.Prelude.{◌≡◌, ◌++◌, ◌-◌, ◌≤◌, length, take, drop, replicate};
+ghost use Rattle.std.specs.Prelude.{◌≤◌, length};
 ghost use Rattle.gates.specs.Code.{AllCodes};
 ghost use Rattle.reduction.specs.Reducing.{ReducedTo};
 
-// Sets the places from r up to m to 0.
-fn clear(list: &mut [u16], r: usize, m: usize)
-    requires { (r ≤ m) × (m ≤ length list.old) }
-    ensures { list.new ≡ take r list.old ++ (replicate (m - r) 0 ++ drop m list.old) }
-{
-    let mut k = r;
-    while k < m {
-        list[k] = 0;
-        k += 1;
-    }
-}
-
-// Reduces the first m gates, and gives their new number; the places of those that are gone are then 0.
-pub fn reduce(list: &mut [u16], m: usize) -> usize
-    requires m_bound { (m ≤ 4096) × (m ≤ length list.old) }
-    requires all_codes { AllCodes 32 (take m list.old) }
-    ensures { ReducedTo list.old m result list.new }
+// Reduces the gates, and gives their new number; the places of those that are gone are then 0.
+pub fn reduce(list: &mut [u16]) -> usize
+    requires list_len { length list.old ≤ 4096 }
+    requires all_codes { AllCodes 32 list.old }
+    ensures { ReducedTo list.old (length list.old) result list.new }
 {
     let mut first = [0u16; 4096];
     let mut second = [0u16; 4096];
     let mut third = [0u16; 4096];
-    let r = merging::merge_partners(list, &mut first, &mut second, &mut third, m);
-    selection::order(list, &mut first, &mut second, &mut third, r);
-    clear(list, r, m);
+    let r = merging::merge_partners(list, &mut first, &mut second, &mut third);
+    selection::order(&mut list[..r], &mut first, &mut second, &mut third);
+    list[r..].fill(0);
     r
 }

@@ -9,14 +9,7 @@ use gates::Gate;
 use gathering::Controls;
 use text::{Head, Refusal};
 
-// What the rules say of a line in form.
-#[derive(Clone, Copy)]
-pub enum Verdict {
-    Keeps,
-    Breaks(Refusal),
-}
-
-// Rules 4 to 9, of which 8 is tried before 7.
+// Rules 4 to 9, of which 8 is tried before 7. What was tested are six arguments: a struct of them would be taken apart in the next line.
 fn try_rules(
     outside: bool,
     crossed: bool,
@@ -24,32 +17,32 @@ fn try_rules(
     spareless: bool,
     wide: bool,
     many: bool,
-) -> Verdict
+) -> Result<(), Refusal>
     ensures { seen_verdict result ≡ tried outside crossed rising spareless wide many }
 {
     if outside {
-        return Verdict::Breaks(Refusal::NoSuchLine);
+        return Err(Refusal::NoSuchLine);
     }
     if crossed {
-        return Verdict::Breaks(Refusal::Crossed);
+        return Err(Refusal::Crossed);
     }
     if !rising {
-        return Verdict::Breaks(Refusal::Unsorted);
+        return Err(Refusal::Unsorted);
     }
     if spareless {
-        return Verdict::Breaks(Refusal::NoSpare);
+        return Err(Refusal::NoSpare);
     }
     if wide {
-        return Verdict::Breaks(Refusal::TooWide);
+        return Err(Refusal::TooWide);
     }
     if many {
-        return Verdict::Breaks(Refusal::TooMany);
+        return Err(Refusal::TooMany);
     }
-    Verdict::Keeps
+    Ok(())
 }
 
 // The rules for a gate of a circuit, after `before` gates.
-pub fn gate_rules(head: Head, g: Gate, before: usize) -> Verdict
+pub fn gate_rules(head: Head, g: Gate, before: usize) -> Result<(), Refusal>
     ensures { GateVerdict head g before result }
 {
     let n = head.lines;
@@ -97,7 +90,7 @@ fn too_many(before: usize, total: usize, k: usize, negated: usize) -> bool
 }
 
 // The rules for an mct gate, after `before` mct gates whose expansions have `total` gates.
-pub fn mct_rules(head: Head, t: u8, a: Controls, before: usize, total: usize) -> Verdict
+pub fn mct_rules(head: Head, t: u8, a: Controls, before: usize, total: usize) -> Result<(), Refusal>
     requires le_lines { (1 ≤ head.lines) × (head.lines ≤ 32) }
     requires total_bound { (total ≤ 4096) × (a.negated.count ≤ a.lines.count) }
     ensures { MctVerdict head t a before total result }

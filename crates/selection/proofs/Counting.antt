@@ -1,12 +1,13 @@
 -- How many gates on a line are left before a place. Assumes nothing.
 use mathlib.Core.Path.{◌≡◌, refl, sym, ap, ◌∙◌}
 use mathlib.Core.Logic.{◌≢◌}
-use mathlib.Core.Bool.{Bool, true, false}
 use mathlib.Core.List.{List, [], ◌∷◌}
 use Prim.Native.Nat.{ℕ, zero, suc, ◌+◌, ◌≤◌, ◌<◌}
 use native.Mathlib.Omega.{arith}
 use native.Mathlib.Decide.{ℕ_discrete}
 use lib.ListN.{get_or, set}
+use Rattle.selection.specs.declared.Kind.{Kind}
+use Rattle.selection.specs.declared.Kind.TheVariants.{Target, Control}
 use Rattle.selection.specs.Places.{line}
 use Rattle.selection.specs.Runs.{Off, Uses, either, use_of, number}
 
@@ -38,13 +39,13 @@ either_few (no a) (no b) = omega arith
 pub use_none : (y k : ℕ) → (k ≢ 0 → Off k y) → use_of y k ≡ 0
 unfolding use_of
 use_none y zero f = refl
-use_none y (suc k) f = let o = f (λ e. omega arith) in either_none (ℕ_discrete (line true (suc k)) y) (ℕ_discrete (line false (suc k)) y) (o true) (o false)
+use_none y (suc k) f = let o = f (λ e. omega arith) in either_none (ℕ_discrete (line Target (suc k)) y) (ℕ_discrete (line Control (suc k)) y) (o Target) (o Control)
 
-pub use_one : (y k : ℕ) (b : Bool) → k ≢ 0 → line b k ≡ y → use_of y k ≡ 1
+pub use_one : (y k : ℕ) (b : Kind) → k ≢ 0 → line b k ≡ y → use_of y k ≡ 1
 unfolding use_of
 use_one y zero b d e = absurd (d refl)
-use_one y (suc k) true d e = either_first (ℕ_discrete (line true (suc k)) y) (ℕ_discrete (line false (suc k)) y) e
-use_one y (suc k) false d e = either_second (ℕ_discrete (line true (suc k)) y) (ℕ_discrete (line false (suc k)) y) e
+use_one y (suc k) Target d e = either_first (ℕ_discrete (line Target (suc k)) y) (ℕ_discrete (line Control (suc k)) y) e
+use_one y (suc k) Control d e = either_second (ℕ_discrete (line Target (suc k)) y) (ℕ_discrete (line Control (suc k)) y) e
 
 either_some : {A B : Type 0} (d : Dec A) (e : Dec B) {X : Type 0} → either d e ≢ 0 → (A → X) → (B → X) → X
 unfolding either
@@ -52,15 +53,15 @@ either_some (yes a) e n f g = f a
 either_some (no a) (yes b) n f g = g b
 either_some (no a) (no b) n f g = absurd (n refl)
 
-use_some : (y k : ℕ) → use_of y k ≢ 0 → (k ≢ 0) × (b : Bool) × (line b k ≡ y)
+use_some : (y k : ℕ) → use_of y k ≢ 0 → (k ≢ 0) × (b : Kind) × (line b k ≡ y)
 unfolding use_of
 use_some y zero n = absurd (n refl)
-use_some y (suc k) n = either_some (ℕ_discrete (line true (suc k)) y) (ℕ_discrete (line false (suc k)) y) n (λ e. ((λ z. omega arith), true, e)) (λ e. ((λ z. omega arith), false, e))
+use_some y (suc k) n = either_some (ℕ_discrete (line Target (suc k)) y) (ℕ_discrete (line Control (suc k)) y) n (λ e. ((λ z. omega arith), Target, e)) (λ e. ((λ z. omega arith), Control, e))
 
 use_few : (y k : ℕ) → use_of y k ≤ 1
 unfolding use_of
 use_few y zero = omega arith
-use_few y (suc k) = either_few (ℕ_discrete (line true (suc k)) y) (ℕ_discrete (line false (suc k)) y)
+use_few y (suc k) = either_few (ℕ_discrete (line Target (suc k)) y) (ℕ_discrete (line Control (suc k)) y)
 
 -- ---- the numbers before a place
 
@@ -88,7 +89,7 @@ number_gap y l p (suc d) f =
     omega (arith, ap (λ (x : ℕ). number y l x) e, number_more y l (p + d), z, number_gap y l p d (λ j a b. f j a (omega arith)))
 
 -- a use before h counts
-pub number_some : (y : ℕ) (l : List ℕ) (h j : ℕ) (b : Bool) → j < h → get_or l j 0 ≢ 0 → line b (get_or l j 0) ≡ y → 1 ≤ number y l h
+pub number_some : (y : ℕ) (l : List ℕ) (h j : ℕ) (b : Kind) → j < h → get_or l j 0 ≢ 0 → line b (get_or l j 0) ≡ y → 1 ≤ number y l h
 number_some y l zero j b a d e = absurd (omega arith)
 number_some y l (suc h) j b a d e = go (λ c. number_some y l h j b c d e) (ℕ_discrete j h)
   where

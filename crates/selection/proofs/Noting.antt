@@ -1,12 +1,13 @@
 -- The next uses of each gate's lines, noted from the last gate to the first. Assumes nothing.
 use mathlib.Core.Path.{◌≡◌, sym, ap, ◌∙◌}
 use mathlib.Core.Logic.{◌≢◌}
-use mathlib.Core.Bool.{Bool, true, false}
 use mathlib.Core.List.{List}
 use Prim.Native.Nat.{ℕ, suc, ◌+◌, ◌≤◌, ◌<◌}
 use native.Mathlib.Omega.{arith}
 use native.Mathlib.Decide.{ℕ_discrete}
 use lib.ListN.{length, get_or, set, replicate, length-set, length-replicate, get_or-replicate}
+use Rattle.selection.specs.declared.Kind.{Kind}
+use Rattle.selection.specs.declared.Kind.TheVariants.{Target, Control}
 use Rattle.selection.specs.Places.{Numbers, line}
 use Rattle.selection.specs.Runs.{NextUse, number}
 use Rattle.selection.specs.Taking.{Unopened}
@@ -17,15 +18,15 @@ use Rattle.selection.proofs.Opening.{Read, new, old, read, left_line}
 
 module _ {l : List ℕ} {r y p h : ℕ} (w : NextUse l r y (suc p) h) where
   -- a gate that is not on the line
-  pub next_other : ((b : Bool) → line b (get_or l p 0) ≢ y) → NextUse l r y p h
+  pub next_other : ((b : Kind) → line b (get_or l p 0) ≢ y) → NextUse l r y p h
   next_other f = record { from = omega (arith, w.from); within = w.within; gap = λ j a c d. go j a c d (ℕ_discrete j p); found = w.found }
     where
-      go : (j : ℕ) → p ≤ j → j < h → get_or l j 0 ≢ 0 → Dec (j ≡ p) → (b : Bool) → line b (get_or l j 0) ≢ y
+      go : (j : ℕ) → p ≤ j → j < h → get_or l j 0 ≢ 0 → Dec (j ≡ p) → (b : Kind) → line b (get_or l j 0) ≢ y
       go j a c d (yes e) b = rw e (f b)
       go j a c d (no e) b = w.gap j (omega arith) c d b
 
 -- a gate that is
-pub next_own : (l : List ℕ) (r y p : ℕ) (b : Bool) → p < r → get_or l p 0 ≢ 0 → line b (get_or l p 0) ≡ y → NextUse l r y p p
+pub next_own : (l : List ℕ) (r y p : ℕ) (b : Kind) → p < r → get_or l p 0 ≢ 0 → line b (get_or l p 0) ≡ y → NextUse l r y p p
 next_own l r y p b h d e = record { from = omega arith; within = omega arith; gap = λ j a c. absurd (omega arith); found = λ a. record { left = d; kind = b; own = e } }
 
 -- ---- all places from p on
@@ -35,8 +36,8 @@ pub record Noting (l : List ℕ) (r p : ℕ) (next_target next_control opened : 
   pub room_target : r ≤ length next_target
   pub room_control : r ≤ length next_control
   pub first : (y : ℕ) → y < 33 → NextUse l r y p (get_or opened y 0)
-  pub targets : (i : ℕ) → p ≤ i → i < r → NextUse l r (line true (get_or l i 0)) (suc i) (get_or next_target i 0)
-  pub controls : (i : ℕ) → p ≤ i → i < r → NextUse l r (line false (get_or l i 0)) (suc i) (get_or next_control i 0)
+  pub targets : (i : ℕ) → p ≤ i → i < r → NextUse l r (line Target (get_or l i 0)) (suc i) (get_or next_target i 0)
+  pub controls : (i : ℕ) → p ≤ i → i < r → NextUse l r (line Control (get_or l i 0)) (suc i) (get_or next_control i 0)
 
 pub noting_start : (l : List ℕ) (r : ℕ) (next_target next_control opened : List ℕ) → r ≤ length next_target → r ≤ length next_control → opened ≡ replicate 33 r → Noting l r r next_target next_control opened
 noting_start l r nt nc opened a b e = rw e (record {
@@ -53,11 +54,11 @@ module _ (l : List ℕ) (r : ℕ) (n : Numbers l r) (p : ℕ) (h : p < r) (d : g
   later = omega arith
 
   -- the next use of the gate's own line
-  own_next : (b : Bool) → NextUse l r (line b (get_or l p 0)) (suc p) (get_or opened (line b (get_or l p 0)) 0)
+  own_next : (b : Kind) → NextUse l r (line b (get_or l p 0)) (suc p) (get_or opened (line b (get_or l p 0)) 0)
   own_next b = rw later at (w.first (line b (get_or l p 0)) (left_line n b p d))
 
   -- each place from p on keeps what it has, and p gets its own
-  noted : (b : Bool) (next : List ℕ) → r ≤ length next → ((i : ℕ) → p + 1 ≤ i → i < r → NextUse l r (line b (get_or l i 0)) (suc i) (get_or next i 0)) → (i : ℕ) → p ≤ i → i < r
+  noted : (b : Kind) (next : List ℕ) → r ≤ length next → ((i : ℕ) → p + 1 ≤ i → i < r → NextUse l r (line b (get_or l i 0)) (suc i) (get_or next i 0)) → (i : ℕ) → p ≤ i → i < r
       → NextUse l r (line b (get_or l i 0)) (suc i) (get_or (set next p (get_or opened (line b (get_or l p 0)) 0)) i 0)
   noted b next room f i a c = go (read next p (get_or opened (line b (get_or l p 0)) 0) i (omega arith))
     where
@@ -65,29 +66,29 @@ module _ (l : List ℕ) (r : ℕ) (n : Numbers l r) (p : ℕ) (h : p < r) (d : g
       go (new e v) = rw (v, e) (own_next b)
       go (old e v) = rw v (f i (omega arith) c)
 
-  firsts : (y : ℕ) → y < 33 → NextUse l r y p (get_or (set (set opened (line true (get_or l p 0)) p) (line false (get_or l p 0)) p) y 0)
+  firsts : (y : ℕ) → y < 33 → NextUse l r y p (get_or (set (set opened (line Target (get_or l p 0)) p) (line Control (get_or l p 0)) p) y 0)
   firsts y g =
-      go (read (set opened (line true (get_or l p 0)) p) (line false (get_or l p 0)) p y (omega (arith, length-set opened (line true (get_or l p 0)) p, w.size, left_line n false p d)))
-      (read opened (line true (get_or l p 0)) p y (omega (arith, w.size, left_line n true p d)))
+      go (read (set opened (line Target (get_or l p 0)) p) (line Control (get_or l p 0)) p y (omega (arith, length-set opened (line Target (get_or l p 0)) p, w.size, left_line n Control p d)))
+      (read opened (line Target (get_or l p 0)) p y (omega (arith, w.size, left_line n Target p d)))
     where
-      off : (line true (get_or l p 0) ≢ y) → (line false (get_or l p 0) ≢ y) → (b : Bool) → line b (get_or l p 0) ≢ y
-      off s t true = s
-      off s t false = t
+      off : (line Target (get_or l p 0) ≢ y) → (line Control (get_or l p 0) ≢ y) → (b : Kind) → line b (get_or l p 0) ≢ y
+      off s t Target = s
+      off s t Control = t
 
-      go : Read (set opened (line true (get_or l p 0)) p) (line false (get_or l p 0)) p y → Read opened (line true (get_or l p 0)) p y → NextUse l r y p (get_or (set (set opened (line true (get_or l p 0)) p) (line false (get_or l p 0)) p) y 0)
-      go (new e v) o = rw v (next_own l r y p false h d (sym e))
-      go (old e v) (new e' v') = rw (v, v') (next_own l r y p true h d (sym e'))
+      go : Read (set opened (line Target (get_or l p 0)) p) (line Control (get_or l p 0)) p y → Read opened (line Target (get_or l p 0)) p y → NextUse l r y p (get_or (set (set opened (line Target (get_or l p 0)) p) (line Control (get_or l p 0)) p) y 0)
+      go (new e v) o = rw v (next_own l r y p Control h d (sym e))
+      go (old e v) (new e' v') = rw (v, v') (next_own l r y p Target h d (sym e'))
       go (old e v) (old e' v') = rw (v, v') (next_other (rw later at (w.first y g)) (off (λ z. e' (sym z)) (λ z. e (sym z))))
 
-  pub noting_more : (nt' nc' opened' : List ℕ) → nt' ≡ set nt p (get_or opened (line true (get_or l p 0)) 0) → nc' ≡ set nc p (get_or opened (line false (get_or l p 0)) 0)
-      → opened' ≡ set (set opened (line true (get_or l p 0)) p) (line false (get_or l p 0)) p → Noting l r p nt' nc' opened'
+  pub noting_more : (nt' nc' opened' : List ℕ) → nt' ≡ set nt p (get_or opened (line Target (get_or l p 0)) 0) → nc' ≡ set nc p (get_or opened (line Control (get_or l p 0)) 0)
+      → opened' ≡ set (set opened (line Target (get_or l p 0)) p) (line Control (get_or l p 0)) p → Noting l r p nt' nc' opened'
   noting_more nt' nc' opened' et ec eo = rw (et, ec, eo) (record {
-    size = length-set (set opened (line true (get_or l p 0)) p) (line false (get_or l p 0)) p ∙ length-set opened (line true (get_or l p 0)) p ∙ w.size;
-    room_target = omega (arith, length-set nt p (get_or opened (line true (get_or l p 0)) 0), w.room_target);
-    room_control = omega (arith, length-set nc p (get_or opened (line false (get_or l p 0)) 0), w.room_control);
+    size = length-set (set opened (line Target (get_or l p 0)) p) (line Control (get_or l p 0)) p ∙ length-set opened (line Target (get_or l p 0)) p ∙ w.size;
+    room_target = omega (arith, length-set nt p (get_or opened (line Target (get_or l p 0)) 0), w.room_target);
+    room_control = omega (arith, length-set nc p (get_or opened (line Control (get_or l p 0)) 0), w.room_control);
     first = firsts;
-    targets = noted true nt w.room_target w.targets;
-    controls = noted false nc w.room_control w.controls;
+    targets = noted Target nt w.room_target w.targets;
+    controls = noted Control nc w.room_control w.controls;
   })
 
 pub noting_end : (l : List ℕ) (r : ℕ) (nt nc opened : List ℕ) → Numbers l r → ((i : ℕ) → get_or l i 0 ≢ 0 → i < r) → Noting l r 0 nt nc opened → Unopened l r nt nc opened
@@ -99,7 +100,7 @@ noting_end l r nt nc opened n inside w = record {
     counts = length-replicate {A = ℕ} 33 0;
     each = λ y g.
         let f = w.first y g in
-        record { within = f.within; found = f.found; alike = λ i j a b d e s t. f.gap i (omega arith) a d true s };
+        record { within = f.within; found = f.found; alike = λ i j a b d e s t. f.gap i (omega arith) a d Target s };
     count = λ y g.
         let f = w.first y g in
         let z : ◌≡◌ {A = ℕ} (get_or (replicate 33 0) y 0) 0 = get_or-replicate {A = ℕ} 33 y 0 0 g in

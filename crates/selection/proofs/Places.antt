@@ -2,7 +2,6 @@
 -- one site. Assumes nothing.
 use mathlib.Core.Path.{◌≡◌, refl, ap, ◌∙◌}
 use mathlib.Core.Logic.{◌≢◌}
-use mathlib.Core.Bool.{Bool, true, false, not}
 use mathlib.Core.List.{List, [], ◌∷◌, ◌++◌}
 use Prim.Native.Nat.{ℕ, zero, suc, ◌/◌, ◌≤◌, ◌<◌}
 use native.Mathlib.Omega.{arith}
@@ -16,6 +15,9 @@ use Rattle.gates.specs.Sites.{Same, Free, free_nil, free_cons, Front, here, ther
 use Rattle.gates.proofs.Sites.{same_refl, same_sym, passes_same, passes_self}
 use Rattle.partners.specs.Shortest.{Shortest}
 use Rattle.partners.proofs.Shortest.{shortest_tail}
+use Rattle.selection.specs.declared.Kind.{Kind}
+use Rattle.selection.specs.declared.Kind.TheVariants.{Target, Control}
+use Rattle.selection.specs.Places.{opposite}
 use Rattle.selection.specs.Places.{rest, line, InFront, Single}
 use Rattle.selection.proofs.Fronts.{no_twin}
 
@@ -40,22 +42,22 @@ module _ (l : List ℕ) (p : ℕ) (h : p < length l) where
 -- ---- lines
 
 -- the lines of a gate
-pub line_below : (b : Bool) (k : ℕ) → k < 4224 → line b k < 33
-line_below true k h = omega arith
-line_below false k h = omega arith
+pub line_below : (b : Kind) (k : ℕ) → k < 4224 → line b k < 33
+line_below Target k h = omega arith
+line_below Control k h = omega arith
 
-pub lines_differ : (b : Bool) (k : ℕ) → Code 32 k → line b k ≢ line (not b) k
-lines_differ true k c e = (passes_self c.valid).there (omega (arith, target_gate k, slot_gate k))
-lines_differ false k c e = (passes_self c.valid).there (omega (arith, target_gate k, slot_gate k))
+pub lines_differ : (b : Kind) (k : ℕ) → Code 32 k → line b k ≢ line (opposite b) k
+lines_differ Target k c e = (passes_self c.valid).there (omega (arith, target_gate k, slot_gate k))
+lines_differ Control k c e = (passes_self c.valid).there (omega (arith, target_gate k, slot_gate k))
 
 -- two gates pass if neither has the other's target as control
-pub line_passes : (g h : ℕ) → line false h ≢ line true g → line true h ≢ line false g → Passes (gate g) (gate h)
+pub line_passes : (g h : ℕ) → line Control h ≢ line Target g → line Target h ≢ line Control g → Passes (gate g) (gate h)
 line_passes g h a b = record { there = λ e. a (omega (arith, target_gate g, slot_gate h)); back = λ e. b (omega (arith, target_gate h, slot_gate g)) }
 
-passes_there : (g h : ℕ) → Passes (gate g) (gate h) → line false h ≢ line true g
+passes_there : (g h : ℕ) → Passes (gate g) (gate h) → line Control h ≢ line Target g
 passes_there g h p e = p.there (omega (arith, target_gate g, slot_gate h))
 
-passes_back : (g h : ℕ) → Passes (gate g) (gate h) → line true h ≢ line false g
+passes_back : (g h : ℕ) → Passes (gate g) (gate h) → line Target h ≢ line Control g
 passes_back g h p e = p.back (omega (arith, target_gate h, slot_gate g))
 
 -- ---- sites in front, by their places

@@ -1,7 +1,6 @@
 -- The loops that open runs, as laws on lists. Assumes nothing.
 use mathlib.Core.Path.{◌≡◌, refl, ap, ◌∙◌}
 use mathlib.Core.Logic.{◌≢◌}
-use mathlib.Core.Bool.{Bool, true, false, not}
 use mathlib.Core.List.{List}
 use Prim.Native.Nat.{ℕ, suc, ◌+◌, ◌≤◌, ◌<◌}
 use native.Mathlib.Omega.{arith}
@@ -10,7 +9,9 @@ use lib.ListN.{get_or, set, replicate, get_or-replicate}
 use lib.Seq.{get_or-set_same, get_or-set_other}
 use Rattle.gates.specs.Code.{gates}
 use Rattle.partners.specs.Shortest.{Shortest}
-use Rattle.selection.specs.Places.{rest, Numbers, line, Single}
+use Rattle.selection.specs.declared.Kind.{Kind}
+use Rattle.selection.specs.declared.Kind.TheVariants.{Target, Control}
+use Rattle.selection.specs.Places.{opposite, rest, Numbers, line, Single}
 use Rattle.selection.specs.Runs.{NextUse, NextUses, number, Lines, Differs, Whole}
 use Rattle.selection.specs.Taking.{Marks, State, Marked, Opened, OpenedNext, Prepared}
 use Rattle.selection.proofs.Counting.{number_some}
@@ -18,7 +19,7 @@ use Rattle.selection.proofs.Opening.{Kinds, same, other, kinds, next_uses_rise, 
 
 -- ---- a run of line y, of kind b, opened up to place p
 
-pub record Opening (l : List ℕ) (r y : ℕ) (b : Bool) (opened₀ running₀ : List ℕ) (p : ℕ) (opened running places rows : List ℕ) : Type 0 where
+pub record Opening (l : List ℕ) (r y : ℕ) (b : Kind) (opened₀ running₀ : List ℕ) (p : ℕ) (opened running places rows : List ℕ) : Type 0 where
   pub place : get_or opened y 0 ≡ p
   pub lines : Lines l r opened running
   pub marks : Marks l opened places rows
@@ -26,18 +27,18 @@ pub record Opening (l : List ℕ) (r y : ℕ) (b : Bool) (opened₀ running₀ :
   pub rises : (z : ℕ) → get_or opened₀ z 0 ≤ get_or opened z 0
   pub others : (z : ℕ) → z ≢ y → (get_or opened z 0 ≡ get_or opened₀ z 0) × (get_or running z 0 ≡ get_or running₀ z 0)
 
-pub opening_start : (l : List ℕ) (r y : ℕ) (b : Bool) (opened running places rows : List ℕ) → y < 33 → Lines l r opened running → Marks l opened places rows → get_or running y 0 ≡ 0
+pub opening_start : (l : List ℕ) (r y : ℕ) (b : Kind) (opened running places rows : List ℕ) → y < 33 → Lines l r opened running → Marks l opened places rows → get_or running y 0 ≡ 0
     → Opening l r y b opened running (get_or opened y 0) opened running places rows
 opening_start l r y b opened running places rows g w m e = record {
   place = refl;
   lines = w;
   marks = m;
-  pure = λ j h d q. omega (arith, number_some y l (get_or opened y 0) j (not b) h d q, w.count y g);
+  pure = λ j h d q. omega (arith, number_some y l (get_or opened y 0) j (opposite b) h d q, w.count y g);
   rises = λ z. omega arith;
   others = λ z d. (refl, refl);
 }
 
-module _ {l : List ℕ} {r y : ℕ} {b : Bool} {opened₀ running₀ : List ℕ} {p : ℕ} {opened running places rows : List ℕ} (g : y < 33) (n : Numbers l r) (w : Opening l r y b opened₀ running₀ p opened running places rows) where
+module _ {l : List ℕ} {r y : ℕ} {b : Kind} {opened₀ running₀ : List ℕ} {p : ℕ} {opened running places rows : List ℕ} (g : y < 33) (n : Numbers l r) (w : Opening l r y b opened₀ running₀ p opened running places rows) where
   pub opening_left : p < r → get_or l p 0 ≢ 0
   opening_left h = rw w.place at ((w.lines.each y g).found (omega (arith, w.place))).left
 
@@ -45,7 +46,7 @@ module _ {l : List ℕ} {r y : ℕ} {b : Bool} {opened₀ running₀ : List ℕ}
     pub opening_next : NextUse l r y (suc p) (get_or next p 0)
     opening_next = rw own at (k p (opening_left h) (rw own (omega (arith, w.rises y, w.place))))
 
-    pub opening_more : (x : ℕ) (places' rows' : List ℕ) → Single l → x ≡ get_or running y 0 + 1 → Marked (set opened y (get_or next p 0)) places rows p (get_or l p 0) (line (not b) (get_or l p 0)) places' rows'
+    pub opening_more : (x : ℕ) (places' rows' : List ℕ) → Single l → x ≡ get_or running y 0 + 1 → Marked (set opened y (get_or next p 0)) places rows p (get_or l p 0) (line (opposite b) (get_or l p 0)) places' rows'
         → Opening l r y b opened₀ running₀ (get_or next p 0) (set opened y (get_or next p 0)) (set running y x) places' rows'
     opening_more x places' rows' single e t =
         let q = get_or next p 0 in
@@ -84,39 +85,23 @@ module _ {l : List ℕ} {r y : ℕ} {b : Bool} {opened₀ running₀ : List ℕ}
           go (same z) = absurd (d (rw z e))
           go (other z) = rw z at (w.pure j a f)
 
-  -- or no use is left
-  pub opening_end : r ≤ p → Opened l r y opened₀ running₀ opened running places rows
-  opening_end h = record { lines = w.lines; marks = w.marks; whole = λ k. absurd (omega (arith, w.place)); rises = w.rises; others = w.others }
-
 -- ---- the next run of a line
 
 module _ {l : List ℕ} {r : ℕ} {nt nc opened running places rows : List ℕ} (y : ℕ) (w : State l r nt nc opened running places rows) where
-  -- nothing is opened: the run that is open is a whole one
-  pub next_same : Whole l r opened running y → OpenedNext l r y nt nc opened running opened running places rows
-  next_same h = record { state = w; whole = h; others = λ z d. (refl, refl) }
-
   -- one more run
   pub next_opened : {opened' running' places' rows' : List ℕ} → Opened l r y opened running opened' running' places' rows' → OpenedNext l r y nt nc opened running opened' running' places' rows'
   next_opened {opened'} o = record {
     state = record {
       room_target = w.room_target;
       room_control = w.room_control;
-      targets = next_uses_rise l r opened opened' nt true o.rises w.targets;
-      controls = next_uses_rise l r opened opened' nc false o.rises w.controls;
+      targets = next_uses_rise l r opened opened' nt Target o.rises w.targets;
+      controls = next_uses_rise l r opened opened' nc Control o.rises w.controls;
       lines = o.lines;
       marks = o.marks;
     };
     whole = o.whole;
     others = o.others;
   }
-
-  -- a use that is not of the target's kind is of the control's
-  pub control_use : y < 33 → get_or opened y 0 < r → line true (get_or l (get_or opened y 0) 0) ≢ y → line false (get_or l (get_or opened y 0) 0) ≡ y
-  control_use g h d = let u = (w.lines.each y g).found h in go u.kind u.own
-    where
-      go : (b : Bool) → line b (get_or l (get_or opened y 0) 0) ≡ y → line false (get_or l (get_or opened y 0) 0) ≡ y
-      go true e = absurd (d e)
-      go false e = e
 
 -- ---- all lines
 
@@ -148,5 +133,6 @@ ranging_more {l} {r} {y} {opened = opened} {running} {opened' = opened'} {runnin
     go z h (yes e) = rw e o.whole
     go z h (no e) = whole_kept l r z opened running opened' running' (o.others z e) (w.whole z (omega arith))
 
+-- with all lines opened the gates can be taken
 pub ranging_end : {l : List ℕ} {r y : ℕ} {nt nc opened running places rows : List ℕ} → 33 ≤ y → Numbers l r → Shortest 32 (gates (rest l)) → Ranging l r y nt nc opened running places rows → Prepared l r nt nc opened running places rows
 ranging_end h n s w = record { numbers = n; shortest = s; state = w.state; whole = λ z g. w.whole z (omega arith) }

@@ -1,7 +1,6 @@
 -- A turn: the gate of the lowest site in front is taken. Assumes nothing.
 use mathlib.Core.Path.{◌≡◌, sym, ap, ◌∙◌}
 use mathlib.Core.Logic.{◌≢◌, ◌↔◌}
-use mathlib.Core.Bool.{Bool, true, false, not}
 use mathlib.Core.List.{List, ◌∷◌, ◌++◌}
 use Prim.Native.Nat.{ℕ, suc, ◌+◌, ◌-◌, ◌*◌, ◌/◌, ◌≤◌, ◌<◌}
 use native.Mathlib.Omega.{arith}
@@ -17,6 +16,9 @@ use Rattle.gates.proofs.Sites.{same_less}
 use Rattle.partners.specs.Shortest.{Shortest}
 use Rattle.partners.proofs.Shortest.{shortest_tail}
 use Rattle.sites.specs.Sites.{Has, Removed, Lowest}
+use Rattle.selection.specs.declared.Kind.{Kind}
+use Rattle.selection.specs.declared.Kind.TheVariants.{Target, Control}
+use Rattle.selection.specs.Places.{opposite}
 use Rattle.selection.specs.Selection.{Selects, select}
 use Rattle.selection.specs.Places.{rest, Numbers, line, InFront, Single}
 use Rattle.selection.specs.Runs.{Uses, NextUse, NextUses, number, Lines, Differs, Whole}
@@ -34,21 +36,21 @@ site_order k g (low h) = omega (arith, target_gate k, target_gate g)
 site_order k g (tie e h) = omega (arith, target_gate k, target_gate g, slot_gate k, slot_gate g)
 
 module _ (l : List ℕ) (r : ℕ) (opened running : List ℕ) (n : Numbers l r) (v : Lines l r opened running) (whole : (y : ℕ) → y < 33 → Whole l r opened running y) (i : ℕ) (w : InFront l i) where
-  unblocked : (b : Bool) (j : ℕ) → j < i → get_or l j 0 ≢ 0 → line (not b) (get_or l j 0) ≢ line b (get_or l i 0)
-  unblocked true = w.there
-  unblocked false = w.back
+  unblocked : (b : Kind) (j : ℕ) → j < i → get_or l j 0 ≢ 0 → line (opposite b) (get_or l j 0) ≢ line b (get_or l i 0)
+  unblocked Target = w.there
+  unblocked Control = w.back
 
   -- the first use that is not open is not before the gate: it, or an open one, would block the gate
-  blocked : (b : Bool) (h j : ℕ) (d e : Bool) → h ≤ i → j < h → get_or l h 0 ≢ 0 → get_or l j 0 ≢ 0 → line d (get_or l h 0) ≡ line b (get_or l i 0) → line e (get_or l j 0) ≡ line b (get_or l i 0)
+  blocked : (b : Kind) (h j : ℕ) (d e : Kind) → h ≤ i → j < h → get_or l h 0 ≢ 0 → get_or l j 0 ≢ 0 → line d (get_or l h 0) ≡ line b (get_or l i 0) → line e (get_or l j 0) ≡ line b (get_or l i 0)
       → line d (get_or l j 0) ≢ line b (get_or l i 0) → Kinds b d → Kinds b e → Dec (h ≡ i) → ⊥
   blocked b h j d e a c x z o q f (same s) (same t) k = f (rw (sym s ∙ t) q)
   blocked b h j d e a c x z o q f (same s) (other t) k = unblocked b j (omega arith) z (rw t q)
   blocked b h j d e a c x z o q f (other s) t (yes k) =
-      let u : line (not b) (get_or l h 0) ≡ line b (get_or l i 0) = rw s o in
-      lines_differ b (get_or l i 0) (n.code i w.left) (sym (ap (λ (x : ℕ). line (not b) (get_or l x 0)) (sym k) ∙ u))
+      let u : line (opposite b) (get_or l h 0) ≡ line b (get_or l i 0) = rw s o in
+      lines_differ b (get_or l i 0) (n.code i w.left) (sym (ap (λ (x : ℕ). line (opposite b) (get_or l x 0)) (sym k) ∙ u))
   blocked b h j d e a c x z o q f (other s) t (no k) = unblocked b h (omega arith) x (rw s o)
 
-  past : (b : Bool) → i < get_or opened (line b (get_or l i 0)) 0
+  past : (b : Kind) → i < get_or opened (line b (get_or l i 0)) 0
   past b = go (dec_lt i (get_or opened (line b (get_or l i 0)) 0))
     where
       go : Dec (i < get_or opened (line b (get_or l i 0)) 0) → i < get_or opened (line b (get_or l i 0)) 0
@@ -64,7 +66,7 @@ module _ (l : List ℕ) (r : ℕ) (opened running : List ℕ) (n : Numbers l r) 
           absurd (blocked b h z.0 u.kind z.2.kind (omega arith) z.1 u.left z.2.left u.own z.2.own (x.1 u.kind u.own z.0 z.1 z.2.left) (kinds b u.kind) (kinds b z.2.kind) (ℕ_discrete h i))
 
   pub front_ready : Ready opened (get_or l i 0) i
-  front_ready = record { there = past true; back = past false }
+  front_ready = record { there = past Target; back = past Control }
 
 -- so what is open tells exactly what is in front
 pub in_front_exactly : (l : List ℕ) (r : ℕ) (opened running : List ℕ) → Numbers l r → Lines l r opened running → ((y : ℕ) → y < 33 → Whole l r opened running y) → (i : ℕ) → InFront l i ↔ ((get_or l i 0 ≢ 0) × Ready opened (get_or l i 0) i)
@@ -101,14 +103,14 @@ module _ {l : List ℕ} {r : ℕ} {nt nc opened running places rows : List ℕ} 
     turn_code = n.code p shown.left
 
     -- its lines
-    own_target : line true (get_or l p 0) ≡ t + 1
+    own_target : line Target (get_or l p 0) ≡ t + 1
     own_target = omega (arith, shown.site, b.slot)
 
-    own_control : line false (get_or l p 0) ≡ s
+    own_control : line Control (get_or l p 0) ≡ s
     own_control = omega (arith, shown.site, b.slot)
 
     pub slot_differs : s ≢ t + 1
-    slot_differs e = lines_differ true (get_or l p 0) turn_code (own_target ∙ sym (own_control ∙ e))
+    slot_differs e = lines_differ Target (get_or l p 0) turn_code (own_target ∙ sym (own_control ∙ e))
 
     open_target : p < get_or opened (t + 1) 0
     open_target = rw own_target at shown.ready.there
@@ -118,8 +120,8 @@ module _ {l : List ℕ} {r : ℕ} {nt nc opened running places rows : List ℕ} 
 
     pub turn_counts : (1 ≤ get_or running (t + 1) 0) × (1 ≤ get_or running s 0)
     turn_counts = (
-      omega (arith, number_some (t + 1) l (get_or opened (t + 1) 0) p true open_target shown.left own_target, w.state.lines.count (t + 1) (omega (arith, b.target))),
-      omega (arith, number_some s l (get_or opened s 0) p false open_control shown.left own_control, w.state.lines.count s b.slot),
+      omega (arith, number_some (t + 1) l (get_or opened (t + 1) 0) p Target open_target shown.left own_target, w.state.lines.count (t + 1) (omega (arith, b.target))),
+      omega (arith, number_some s l (get_or opened s 0) p Control open_control shown.left own_control, w.state.lines.count s b.slot),
     )
 
     -- ---- what is left
@@ -168,7 +170,7 @@ module _ {l : List ℕ} {r : ℕ} {nt nc opened running places rows : List ℕ} 
       found = λ c. uses_kept y q (not_open y q (omega (arith, u.from)) (u.found c)) (u.found c);
     }
 
-    next_uses_kept : (c : Bool) (next : List ℕ) → NextUses l r opened c next → NextUses (set l p 0) r opened c next
+    next_uses_kept : (c : Kind) (next : List ℕ) → NextUses l r opened c next → NextUses (set l p 0) r opened c next
     next_uses_kept c next f i d =
         let e = (kept i d).same in
         rw e (λ h. next_kept (line c (get_or l i 0)) (suc i) (get_or next i 0) (omega arith) (f i (kept_left i d) h))
@@ -181,7 +183,7 @@ module _ {l : List ℕ} {r : ℕ} {nt nc opened running places rows : List ℕ} 
       second y = read (set running (t + 1) (get_or running (t + 1) 0 - 1)) s (get_or (set running (t + 1) (get_or running (t + 1) 0 - 1)) s 0 - 1) y (omega (arith, b.slot, w.state.lines.counts, length-set running (t + 1) (get_or running (t + 1) 0 - 1)))
 
       -- the counts of its lines are one less, the others are as they were
-      counts_less : (y : ℕ) (c : Bool) → y < 33 → line c (get_or l p 0) ≡ y → number y (set l p 0) (get_or opened y 0) ≡ get_or running y 0 - 1
+      counts_less : (y : ℕ) (c : Kind) → y < 33 → line c (get_or l p 0) ≡ y → number y (set l p 0) (get_or opened y 0) ≡ get_or running y 0 - 1
       counts_less y c g own =
           let o : p < get_or opened y 0 = rw own at (ready_line c shown.ready) in
           omega (arith, number_taken y l p (get_or opened y 0) o, use_one y (get_or l p 0) c shown.left own, w.state.lines.count y g)
@@ -189,9 +191,9 @@ module _ {l : List ℕ} {r : ℕ} {nt nc opened running places rows : List ℕ} 
       counts_same : (y : ℕ) → y < 33 → y ≢ t + 1 → y ≢ s → number y (set l p 0) (get_or opened y 0) ≡ get_or running y 0
       counts_same y g d e = go (dec_lt p (get_or opened y 0))
         where
-          off : (c : Bool) → line c (get_or l p 0) ≢ y
-          off true z = d (sym z ∙ own_target)
-          off false z = e (sym z ∙ own_control)
+          off : (c : Kind) → line c (get_or l p 0) ≢ y
+          off Target z = d (sym z ∙ own_target)
+          off Control z = e (sym z ∙ own_control)
 
           go : Dec (p < get_or opened y 0) → number y (set l p 0) (get_or opened y 0) ≡ get_or running y 0
           go (yes h) = omega (arith, number_taken y l p (get_or opened y 0) h, use_none y (get_or l p 0) (λ x. off), w.state.lines.count y g)
@@ -212,8 +214,8 @@ module _ {l : List ℕ} {r : ℕ} {nt nc opened running places rows : List ℕ} 
               → get_or (set (set running (t + 1) (get_or running (t + 1) 0 - 1)) s (get_or (set running (t + 1) (get_or running (t + 1) 0 - 1)) s 0 - 1)) y 0 ≡ number y (set l p 0) (get_or opened y 0)
           go (new z v) u =
               let e : get_or (set running (t + 1) (get_or running (t + 1) 0 - 1)) s 0 ≡ get_or running s 0 = get_or-set_other running (t + 1) s (get_or running (t + 1) 0 - 1) 0 slot_differs in
-              v ∙ ap (λ (x : ℕ). x - 1) e ∙ sym (rw z (counts_less s false b.slot own_control))
-          go (old z v) (new z' v') = v ∙ v' ∙ sym (rw z' (counts_less (t + 1) true (omega (arith, b.target)) own_target))
+              v ∙ ap (λ (x : ℕ). x - 1) e ∙ sym (rw z (counts_less s Control b.slot own_control))
+          go (old z v) (new z' v') = v ∙ v' ∙ sym (rw z' (counts_less (t + 1) Target (omega (arith, b.target)) own_target))
           go (old z v) (old z' v') = v ∙ v' ∙ sym (counts_same y g z' z)
 
       lines_taken : Lines (set l p 0) r opened running'
@@ -259,8 +261,8 @@ module _ {l : List ℕ} {r : ℕ} {nt nc opened running places rows : List ℕ} 
       turn_state rows' q = record {
         room_target = w.state.room_target;
         room_control = w.state.room_control;
-        targets = next_uses_kept true nt w.state.targets;
-        controls = next_uses_kept false nc w.state.controls;
+        targets = next_uses_kept Target nt w.state.targets;
+        controls = next_uses_kept Control nc w.state.controls;
         lines = lines_taken;
         marks = marks_taken rows' q;
       }

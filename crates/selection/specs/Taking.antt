@@ -1,12 +1,13 @@
 -- What the parts of the code leave: next uses noted, a run opened, the lowest gate in front taken. The set of sites `rows` has those of the gates in
 -- front, and `places` has their places. Assumes nothing.
-use Rattle.std.specs.Prelude.{◌≡◌, ◌≢◌, true, false, List, ◌∷◌, ℕ, suc, ◌/◌, ◌≤◌, ◌<◌, length, take, drop, get_or, set, replicate}
+use Rattle.std.specs.Prelude.{◌≡◌, ◌≢◌, List, ◌∷◌, ℕ, suc, ◌/◌, ◌≤◌, ◌<◌, length, take, drop, get_or, set, replicate}
 use Rattle.gates.specs.declared.Gate.{Gate}
 use Rattle.gates.specs.Circuit.{AllValid}
 use Rattle.gates.specs.Code.{gate, gates, Code, AllCodes}
 use Rattle.gates.specs.Reduced.{Reduced}
 use Rattle.partners.specs.Shortest.{Shortest}
 use Rattle.sites.specs.Sites.{Sites, Has, Inserted}
+use Rattle.selection.specs.declared.Kind.TheVariants.{Target, Control}
 use Rattle.selection.specs.Selection.{Selects}
 use Rattle.selection.specs.Places.{rest, Numbers, line}
 use Rattle.selection.specs.Runs.{NextUses, Lines, Whole}
@@ -15,8 +16,8 @@ use Rattle.selection.specs.Runs.{NextUses, Lines, Whole}
 
 -- the gate of number k at place i is open on both of its lines
 pub record Ready (opened : List ℕ) (k i : ℕ) : Type 0 where
-  pub there : i < get_or opened (line true k) 0
-  pub back : i < get_or opened (line false k) 0
+  pub there : i < get_or opened (line Target k) 0
+  pub back : i < get_or opened (line Control k) 0
 
 -- the gate at place i is left, of site s, and ready
 pub record Shown (l opened : List ℕ) (s i : ℕ) : Type 0 where
@@ -35,8 +36,8 @@ pub record Marks (l opened places rows : List ℕ) : Type 0 where
 pub record State (l : List ℕ) (r : ℕ) (next_target next_control opened running places rows : List ℕ) : Type 0 where
   pub room_target : r ≤ length next_target
   pub room_control : r ≤ length next_control
-  pub targets : NextUses l r opened true next_target
-  pub controls : NextUses l r opened false next_control
+  pub targets : NextUses l r opened Target next_target
+  pub controls : NextUses l r opened Control next_control
   pub lines : Lines l r opened running
   pub marks : Marks l opened places rows
 
@@ -44,8 +45,8 @@ pub record State (l : List ℕ) (r : ℕ) (next_target next_control opened runni
 
 -- the next uses of the gates' lines are noted, and nothing is open
 pub record Unopened (l : List ℕ) (r : ℕ) (next_target next_control opened : List ℕ) : Type 0 where
-  pub targets : NextUses l r opened true next_target
-  pub controls : NextUses l r opened false next_control
+  pub targets : NextUses l r opened Target next_target
+  pub controls : NextUses l r opened Control next_control
   pub lines : Lines l r opened (replicate 33 0)
 
 -- the gate of number k at place p is marked if it is open on its other line too

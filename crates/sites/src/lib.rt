@@ -2,8 +2,10 @@
 // The set is 33 numbers: for each target a row, with a binary digit for each slot in the set, and last a digit for each target whose row is not 0.
 #![tactic(auto)]
 
-ghost use Rattle.std.specs.Prelude.{ℕ, ◌+◌, ◌*◌, ◌<◌};
+ghost use Rattle.std.specs.Prelude.{◌≡◌, List, ℕ, ◌+◌, ◌*◌, ◌<◌, replicate};
 ghost use Rattle.sites.specs.Sites.{Has, Sites, Inserted, Removed, Lowest};
+
+use std::marker::Model;
 
 // A site.
 #[derive(Clone, Copy)]
@@ -12,39 +14,56 @@ pub struct Site {
     pub slot: usize,
 }
 
-// Puts the site of target t and slot s into the set.
-pub fn insert(rows: &mut [u64], t: usize, s: usize)
-    requires t_bound { (t < 32) × (s < 33) }
-    requires sites { Sites rows.old }
-    ensures { Inserted rows.old (t * 33 + s) rows.new }
-{
-    rows[t] = rows[t] | 1u64 << s;
-    rows[32] = rows[32] | 1u64 << t;
+// A set of sites. Contracts see its 33 numbers.
+#[derive(Drop)]
+pub struct SiteSet {
+    rows: [u64; 33],
 }
 
-// Takes the site of target t and slot s out of the set.
-pub fn remove(rows: &mut [u64], t: usize, s: usize)
-    requires t_bound { (t < 32) × (s < 33) }
-    requires sites { Sites rows.old }
-    requires has { Has rows.old (t * 33 + s) }
-    ensures { Removed rows.old (t * 33 + s) rows.new }
-{
-    rows[t] = rows[t] ^ 1u64 << s;
-    if rows[t] == 0 {
-        rows[32] = rows[32] ^ 1u64 << t;
+impl Model for SiteSet {
+    ghost Value = { List ℕ };
+
+    ghost view = { λ s. s.rows };
+
+    ghost invariant = { λ s. Sites s.rows };
+}
+
+impl SiteSet {
+    // The set with no site.
+    pub fn new() -> Self
+        ensures { result ≡ replicate 33 0 }
+    {
+        SiteSet { rows: [0; 33] }
     }
-}
 
-// The lowest site in the set.
-pub fn lowest(rows: &[u64]) -> Site
-    requires sites { Sites rows.now }
-    requires by_index { (x : ℕ) × (x < 1056) × Has rows.now x }
-    ensures { Lowest rows.now result.target result.slot }
-{
-    let target = u64::trailing_zeros(rows[32]) as usize;
-    let slot = u64::trailing_zeros(rows[target]) as usize;
-    Site {
-        target: target,
-        slot: slot,
+    // Puts a site into the set.
+    pub fn insert(&mut self, site: Site)
+        requires site_bound { (site.target < 32) × (site.slot < 33) }
+        ensures { Inserted self.old (site.target * 33 + site.slot) self.new }
+    {
+        self.rows[site.target] |= 1u64 << site.slot;
+        self.rows[32] |= 1u64 << site.target;
+    }
+
+    // Takes a site out of the set.
+    pub fn remove(&mut self, site: Site)
+        requires site_bound { (site.target < 32) × (site.slot < 33) }
+        requires has { Has self.old (site.target * 33 + site.slot) }
+        ensures { Removed self.old (site.target * 33 + site.slot) self.new }
+    {
+        self.rows[site.target] ^= 1u64 << site.slot;
+        if self.rows[site.target] == 0 {
+            self.rows[32] ^= 1u64 << site.target;
+        }
+    }
+
+    // The lowest site in the set.
+    pub fn lowest(&self) -> Site
+        requires { (x : ℕ) × (x < 1056) × Has self.now x }
+        ensures { Lowest self.now result.target result.slot }
+    {
+        let target = self.rows[32].trailing_zeros() as usize;
+        let slot = self.rows[target].trailing_zeros() as usize;
+        Site { target, slot }
     }
 }

@@ -2,31 +2,35 @@
 use Prim.Native.Nat.{ℕ, ◌≤◌}
 use mathlib.Core.Path.{◌≡◌, refl, sym, ap, ◌∙◌, subst}
 use mathlib.Core.Logic.{◌↔◌, ◌≢◌}
-use mathlib.Core.Bool.{Bool, true, false, false≢true}
-use mathlib.Core.List.{List}
+use mathlib.Core.Bool.{Bool, true, false, not, false≢true}
+use mathlib.Core.List.{List, map}
 use native.Mathlib.Omega.{arith}
 use lib.ListN.{length, take}
 use lib.Seq.{length-take-le}
+use lib.Dec.{eqb}
+use Rattle.std.specs.Cmp.Lexicographic.{pointwise}
+use Rattle.std.proofs.lemmas.Bool.Decides.{Decides-eqb}
+use Rattle.std.proofs.lemmas.Slice.Eq.{slice_eq-Decides}
 use borrow.Author.Tests.{eq-eqb, ne_eqb}
 use Rattle.gates.specs.declared.Gate.{Gate}
-use Rattle.gates.specs.Code.{gates, AllCodes}
+use Rattle.gates.specs.Code.{code, gates, AllCodes}
+use Rattle.gates.proofs.CodeLists.{code_gates}
 use Rattle.text.specs.declared.Head.{Head}
 use Rattle.text.specs.declared.Refusal.TheVariants.{DifferentLines, NotAllowed, OtherEnd}
-use Rattle.ordering.specs.declared.Comparison.{Comparison}
-use Rattle.ordering.specs.declared.Comparison.TheVariants.{Less, Equal, Greater}
-use Rattle.ordering.specs.Comparing.{compare_numbers, compare_gates, dictionary}
-use Rattle.ordering.proofs.Orders.{dictionary_equal}
-use Rattle.ordering.proofs.Gates.{equal_numbers, dictionary_gates}
+use Rattle.std.specs.declared.cmp.Ordering.{Ordering}
+use Rattle.std.specs.declared.cmp.Ordering.TheVariants.{Less, Equal, Greater}
+use Rattle.ordering.specs.Comparing.{compare_gates, dictionary}
 use Rattle.ordering.proofs.Circuits.{same_lines, lists_equal}
 use Rattle.stepping.specs.Slip.{SlipStep, ends_at, refused_at, run}
 use Rattle.stepping.specs.Stepped.{slip_steps}
 use Rattle.habits.specs.Habits.{fine, away, require, Circuit}
 use Rattle.loading.specs.Loaded.{Renderable}
+use Rattle.loading.specs.declared.Loaded.{Loaded}
 use Rattle.slips.specs.Slip.{ended, is_equal, gate_for_gate, same_end, checked, circuit_of, check_loaded, Accepts}
 
 -- ---- gate for gate
 
-is_equal_exactly_if : (k : Comparison) → (is_equal k ≡ true) ↔ (k ≡ Equal)
+is_equal_exactly_if : (k : Ordering) → (is_equal k ≡ true) ↔ (k ≡ Equal)
 unfolding is_equal
 is_equal_exactly_if Less = (λ e. absurd (false≢true e), λ e. absurd (let z : ◌≡◌ {A = ℕ} 0 1 = cc in omega arith))
 is_equal_exactly_if Equal = (λ _. refl, λ _. refl)
@@ -70,19 +74,26 @@ module _ (c : Circuit) (ss : List SlipStep) (d : Circuit) where
 
 -- ---- the ends as codes
 
+-- what the test of two lists of codes tells
+told_other : (l m : List ℕ) → true ≡ not (pointwise eqb l m) → l ≢ m
+told_other l m h e = absurd (false≢true (sym (ap not ((slice_eq-Decides Decides-eqb l m (pointwise eqb l m) refl).1 e)) ∙ sym h))
+
+told_equal : (l m : List ℕ) → false ≡ not (pointwise eqb l m) → l ≡ m
+told_equal l m h = go (pointwise eqb l m) refl h
+  where
+    go : (b : Bool) → b ≡ pointwise eqb l m → false ≡ not b → l ≡ m
+    go true e _ = (slice_eq-Decides Decides-eqb l m true e).0 refl
+    go false _ h = absurd (false≢true h)
+
 module _ (codes codes' : List ℕ) (e n : ℕ) (fits : e ≤ length codes) (fits' : n ≤ length codes') (valid : AllCodes 32 (take e codes)) (valid' : AllCodes 32 (take n codes')) where
-  -- the codes compare as the gates do
-  same_codes : (k : Comparison) → dictionary compare_numbers (take e codes) (take n codes') ≡ k → gate_for_gate (gates (take e codes)) (gates (take n codes')) ≡ is_equal k
-  unfolding gate_for_gate
-  same_codes k i = rw (dictionary_gates (take e codes) (take n codes') valid valid', i)
+  pub other_codes : true ≡ not (pointwise eqb (take e codes) (take n codes')) → same_end (gates (take e codes)) (gates (take n codes')) ≡ away OtherEnd 0 0
+  other_codes t =
+      let o = told_other (take e codes) (take n codes') t in
+      other_end (gates (take e codes)) (gates (take n codes')) (λ q. o (sym (code_gates 32 (take e codes) valid) ∙ ap (map code) q ∙ code_gates 32 (take n codes') valid'))
 
-  pub other_codes : (k : Comparison) → dictionary compare_numbers (take e codes) (take n codes') ≡ k → is_equal k ≡ false → same_end (gates (take e codes)) (gates (take n codes')) ≡ away OtherEnd 0 0
-  unfolding same_end require
-  other_codes k i z = rw (same_codes k i, z)
-
-  pub equal_codes : (h : Head) → dictionary compare_numbers (take e codes) (take n codes') ≡ Equal → Renderable h n codes' → Accepts (same_end (gates (take e codes)) (gates (take n codes'))) codes codes' h n
-  equal_codes h i w =
-      let q : take e codes ≡ take n codes' = dictionary_equal equal_numbers (take e codes) (take n codes') i in
+  pub equal_codes : (h : Head) → false ≡ not (pointwise eqb (take e codes) (take n codes')) → Renderable h n codes' → Accepts (same_end (gates (take e codes)) (gates (take n codes'))) codes codes' h n
+  equal_codes h t w =
+      let q = told_equal (take e codes) (take n codes') t in
       let l : e ≡ n = omega (arith, ap length q, length-take-le e codes fits, length-take-le n codes' fits') in
       let p : take n codes ≡ take n codes' = subst (λ (k : ℕ). take k codes ≡ take n codes') l q in
       record {
@@ -93,16 +104,19 @@ module _ (codes codes' : List ℕ) (e n : ℕ) (fits : e ≤ length codes) (fits
 
 -- ---- circuits and steps as numbers
 
-module _ (g : Head) (m : ℕ) (codes steps : List ℕ) (k : ℕ) (h : Head) (n : ℕ) (codes' : List ℕ) where
-  pub loaded_different : g.lines ≢ h.lines → check_loaded g m codes steps k h n codes' ≡ away DifferentLines 0 0
+module _ (g : Loaded) (codes steps : List ℕ) (h : Loaded) (codes' : List ℕ) where
+  pub loaded_different : g.head.lines ≢ h.head.lines → check_loaded g codes steps h codes' ≡ away DifferentLines 0 0
   unfolding check_loaded
-  loaded_different e = different_lines (circuit_of g m codes) (slip_steps (take k steps)) (circuit_of h n codes') e
+  loaded_different e = different_lines (circuit_of g codes) (slip_steps steps) (circuit_of h codes') e
 
-  module _ (e : g.lines ≡ h.lines) where
-    pub loaded_not_allowed : {l : ℕ} → run (slip_steps (take k steps)) (gates (take m codes)) ≡ refused_at l → check_loaded g m codes steps k h n codes' ≡ away NotAllowed 2 l
+  module _ (e : g.head.lines ≡ h.head.lines) where
+    pub loaded_not_allowed : {l : ℕ} → run (slip_steps steps) (gates (take g.gates codes)) ≡ refused_at l → check_loaded g codes steps h codes' ≡ away NotAllowed 2 l
     unfolding check_loaded
-    loaded_not_allowed r = not_allowed (circuit_of g m codes) (slip_steps (take k steps)) (circuit_of h n codes') e r
+    loaded_not_allowed r = not_allowed (circuit_of g codes) (slip_steps steps) (circuit_of h codes') e r
 
-    pub loaded_ends : {b : List Gate} → run (slip_steps (take k steps)) (gates (take m codes)) ≡ ends_at b → check_loaded g m codes steps k h n codes' ≡ same_end b (gates (take n codes'))
+    pub loaded_ends : {b : List Gate} → run (slip_steps steps) (gates (take g.gates codes)) ≡ ends_at b → check_loaded g codes steps h codes' ≡ same_end b (gates (take h.gates codes'))
     unfolding check_loaded
-    loaded_ends r = ends (circuit_of g m codes) (slip_steps (take k steps)) (circuit_of h n codes') e r
+    loaded_ends r = ends (circuit_of g codes) (slip_steps steps) (circuit_of h codes') e r
+
+-- what is judged of loaded circuits and steps, by the numbers of lines and the run
+pub ruleset loaded_cases = (loaded_different, loaded_not_allowed, loaded_ends)

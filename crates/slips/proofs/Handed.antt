@@ -18,37 +18,30 @@ use Rattle.outcomes.specs.Outcomes.{refused_two, succeeded_two}
 use Rattle.jobs.specs.Jobs.{judged_text}
 use Rattle.jobs.proofs.Habits.{judged_told}
 use Rattle.jobs.proofs.Handed.{refused_two_hands, succeeded_two_hands}
-use Rattle.slips.specs.Slip.{judged, Slipped, Slip, Hands, check_slip, check_second, check_loaded, Accepts}
+use Rattle.loading.specs.declared.Loaded.{Loaded}
+use Rattle.slips.specs.Slip.{judged, Slipped, Slip, Hands, check_loaded, Accepts}
 use Rattle.slips.proofs.One.{yields_judged}
 
 -- ---- the texts, one after the other
-
-module _ (g : Head) (m : ℕ) (codes steps : List ℕ) (k : ℕ) (u : List ℕ) (j : ℕ) where
-  pub second_refused : {r : Refusal} {i : ℕ} → judged_text kind.Circuit u j ≡ turned_away r i → check_second g m codes steps k u j ≡ away r 3 i
-  unfolding check_second told
-  second_refused q = rw (judged_told 3 kind.Circuit u j, q)
-
-  pub second_accepted : {h : Head} {n : ℕ} {codes' : List ℕ} → loading.Accepts (judged_text kind.Circuit u j) codes' h n → check_second g m codes steps k u j ≡ check_loaded g m codes steps k h n codes'
-  unfolding check_second check_loaded told
-  second_accepted w = rw (judged_told 3 kind.Circuit u j, w.judged)
-
-module _ (g : Head) (m : ℕ) (codes t u : List ℕ) (j : ℕ) where
-  pub slip_refused : {r : Refusal} {i : ℕ} → slip_judged 2 t ≡ away r 2 i → check_slip g m codes t u j ≡ away r 2 i
-  unfolding check_slip
-  slip_refused q = rw q
-
-  pub slip_accepted : {steps : List ℕ} {k : ℕ} → sliptext.Accepts (slip_judged 2 t) steps k → check_slip g m codes t u j ≡ check_second g m codes steps k u j
-  unfolding check_slip check_second
-  slip_accepted w = rw w.judged
 
 module _ (s : List ℕ) (k : ℕ) (t u : List ℕ) (j : ℕ) where
   pub first_refused : {r : Refusal} {i : ℕ} → judged_text kind.Circuit s k ≡ turned_away r i → judged s k t u j ≡ away r 1 i
   unfolding judged told
   first_refused q = rw (judged_told 1 kind.Circuit s k, q)
 
-  pub first_accepted : {g : Head} {m : ℕ} {codes : List ℕ} → loading.Accepts (judged_text kind.Circuit s k) codes g m → judged s k t u j ≡ check_slip g m codes t u j
-  unfolding judged check_slip told
-  first_accepted w = rw (judged_told 1 kind.Circuit s k, w.judged)
+  module _ (g : Loaded) (codes : List ℕ) (w : loading.Accepts (judged_text kind.Circuit s k) codes g.head g.gates) where
+    pub slip_refused : {r : Refusal} {i : ℕ} → slip_judged 2 t ≡ away r 2 i → judged s k t u j ≡ away r 2 i
+    unfolding judged told
+    slip_refused q = rw (judged_told 1 kind.Circuit s k, w.judged, q)
+
+    module _ (steps : List ℕ) (n : ℕ) (v : sliptext.Accepts (slip_judged 2 t) steps n) where
+      pub second_refused : {r : Refusal} {i : ℕ} → judged_text kind.Circuit u j ≡ turned_away r i → judged s k t u j ≡ away r 3 i
+      unfolding judged told
+      second_refused q = rw (judged_told 1 kind.Circuit s k, w.judged, v.judged, judged_told 3 kind.Circuit u j, q)
+
+      pub all_accepted : (h : Loaded) (codes' : List ℕ) → loading.Accepts (judged_text kind.Circuit u j) codes' h.head h.gates → judged s k t u j ≡ check_loaded g codes (take n steps) h codes'
+      unfolding judged told check_loaded
+      all_accepted h codes' z = rw (judged_told 1 kind.Circuit s k, w.judged, v.judged, judged_told 3 kind.Circuit u j, z.judged)
 
 -- ---- what is handed over
 

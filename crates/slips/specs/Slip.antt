@@ -1,30 +1,30 @@
 -- What slip says of a circuit text with its gate list, a slip, and a second circuit text with its gate list (document 02, order 9, "A slip that
 -- goes with a reduction"): number, line, text number, count, and each record of both lists, for all inputs. Assumes nothing.
-use Rattle.std.specs.Prelude.{ℕ, ◌≡◌, Bool, true, false, List, [], ◌∷◌, length, take, eqb}
+use Rattle.std.specs.Prelude.{ℕ, ◌≡◌, Bool, true, false, List, [], ◌∷◌, length, take, eqb, Result, Ok, Err}
 use Rattle.gates.specs.declared.Gate.{Gate}
 use Rattle.gates.specs.Code.{gates}
 use Rattle.text.specs.declared.Head.{Head}
 use Rattle.text.specs.declared.Kind.TheVariants as kind
 use Rattle.text.specs.declared.Refusal.TheVariants.{DifferentLines, NotAllowed, OtherEnd}
-use Rattle.ordering.specs.declared.Comparison.{Comparison}
-use Rattle.ordering.specs.declared.Comparison.TheVariants.{Less, Equal, Greater}
+use Rattle.std.specs.declared.cmp.Ordering.{Ordering}
+use Rattle.std.specs.declared.cmp.Ordering.TheVariants.{Less, Equal, Greater}
+use Rattle.text.specs.declared.TextRefused.{TextRefused}
 use Rattle.ordering.specs.Comparing.{compare_gates, dictionary}
 use Rattle.stepping.specs.Slip.{SlipStep, End, ends_at, refused_at, run}
 use Rattle.stepping.specs.Stepped.{slip_steps}
 use Rattle.sliptext.specs.SlipText.{slip_judged}
 use Rattle.habits.specs.Habits.{Judgement, fine, away, ◌then◌, require, Circuit, text_judged, Exit, Answer, Says}
+use Rattle.loading.specs.declared.Loaded.{Loaded}
 use Rattle.loading.specs.Loaded.{Renderable}
 use Rattle.records.specs.declared.DoneTwo.{DoneTwo}
 use Rattle.jobs.specs.Handing.{HandsTwo}
-use Rattle.slips.specs.declared.Checked.{Checked}
-use Rattle.slips.specs.declared.Checked.TheVariants.{Accepted, Refused}
 
 -- how the steps end: at a circuit; "12, a step not allowed, at its slip line", the slip being text 2
 unfoldable pub ended : End → Judgement (List Gate)
 ended (ends_at e) = fine e
 ended (refused_at l) = away NotAllowed 2 l
 
-unfoldable pub is_equal : Comparison → Bool
+unfoldable pub is_equal : Ordering → Bool
 is_equal Less = false
 is_equal Equal = true
 is_equal Greater = false
@@ -66,24 +66,13 @@ Slip s l t u m x = Says (judged s (length l) t u (length m)) Slipped (record { l
 abbrev pub Hands : List ℕ → ℕ → List ℕ → List ℕ → ℕ → DoneTwo → Type 0
 Hands s k t u j d = HandsTwo (λ l m x. Slip s l t u m x) k j d
 
--- the circuit of the first m codes, below its head
-abbrev pub circuit_of : Head → ℕ → List ℕ → Circuit
-circuit_of h m codes = record { lines = h.lines; gates = gates (take m codes) }
+-- the circuit that was loaded as these parts: that of the first codes, below its head
+abbrev pub circuit_of : Loaded → List ℕ → Circuit
+circuit_of p codes = record { lines = p.head.lines; gates = gates (take p.gates codes) }
 
--- what is judged of a circuit that was loaded, the slip t and the text u
-unfoldable pub check_slip : Head → ℕ → List ℕ → List ℕ → List ℕ → ℕ → Judgement (List Gate × List Gate)
-check_slip g m codes t u j =
-    slip_judged 2 t then λ ss.
-    text_judged 3 kind.Circuit u (j ∷ []) then λ d.
-    checked (circuit_of g m codes) ss d
-
--- of a circuit and the first k steps of a slip that were loaded, and the text u
-unfoldable pub check_second : Head → ℕ → List ℕ → List ℕ → ℕ → List ℕ → ℕ → Judgement (List Gate × List Gate)
-check_second g m codes steps k u j = text_judged 3 kind.Circuit u (j ∷ []) then λ d. checked (circuit_of g m codes) (slip_steps (take k steps)) d
-
--- of all three
-unfoldable pub check_loaded : Head → ℕ → List ℕ → List ℕ → ℕ → Head → ℕ → List ℕ → Judgement (List Gate × List Gate)
-check_loaded g m codes steps k h n codes' = checked (circuit_of g m codes) (slip_steps (take k steps)) (circuit_of h n codes')
+-- what is judged of a circuit, the steps of a slip and a second circuit that were loaded
+unfoldable pub check_loaded : Loaded → (codes steps : List ℕ) → Loaded → List ℕ → Judgement (List Gate × List Gate)
+check_loaded g codes steps h codes' = checked (circuit_of g codes) (slip_steps steps) (circuit_of h codes')
 
 -- an accepted slip: both circuits have m gates, those of the first m codes each
 pub record Accepts (v : Judgement (List Gate × List Gate)) (codes codes' : List ℕ) (h : Head) (m : ℕ) : Type 0 where
@@ -92,6 +81,6 @@ pub record Accepts (v : Judgement (List Gate × List Gate)) (codes codes' : List
   pub renderable' : Renderable h m codes'
 
 -- what is judged v was checked on these codes
-abbrev pub ChecksTo : Judgement (List Gate × List Gate) → List ℕ → List ℕ → Checked → Type 0
-ChecksTo v codes codes' (Accepted h m) = Accepts v codes codes' h m
-ChecksTo v codes codes' (Refused r t l) = v ≡ away r t l
+abbrev pub ChecksTo : Judgement (List Gate × List Gate) → List ℕ → List ℕ → Result Loaded TextRefused → Type 0
+ChecksTo v codes codes' (Ok p) = Accepts v codes codes' p.head p.gates
+ChecksTo v codes codes' (Err r) = v ≡ away r.refusal r.text r.line

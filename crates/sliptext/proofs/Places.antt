@@ -1,56 +1,55 @@
 -- The place that a step names, read at a place of a text, digit by digit. Assumes nothing.
 use mathlib.Core.Path.{◌≡◌, refl}
-use mathlib.Core.Bool.{false}
-use mathlib.Core.List.{List}
-use Prim.Native.Nat.{ℕ, zero, suc, ◌+◌, ◌-◌, ◌*◌, ◌≤◌, ◌<◌}
+use mathlib.Core.List.{List, []}
+use Prim.Native.Nat.{ℕ, zero, suc, ◌+◌, ◌-◌, ◌*◌}
 use native.Mathlib.Numerals.{add-one}
 use native.Mathlib.Omega.{arith}
 use lib.ListN.{length, drop, get_or, drop_of_length-le}
 use lib.Seq.{drop-cons}
 use borrow.Author.Tests.{ne_eqb}
-use Rattle.text.specs.Reading.{got, none, digit}
+use Rattle.std.proofs.Common.{Some, None, ⊎_elim}
+use Rattle.std.proofs.lemmas.Bool.{cases_lt}
+use Rattle.text.specs.Reading.{got, none}
 use Rattle.text.proofs.Printed.{digit_yes}
+use Rattle.tokens.specs.Seen.{digit_tells}
 use Rattle.sliptext.specs.SlipText.{more, place}
-use Rattle.sliptext.proofs.Printed.{more_stops}
+use Rattle.sliptext.proofs.Printed.{more_digit, more_stops}
 
 -- ---- the digits after the first one
 
--- at the end of the text
-pub more_end : (k i : ℕ) (s : List ℕ) (p : ℕ) → length s ≤ p → more k i (drop p s) ≡ got i (drop p s)
+more_empty : (n i : ℕ) → more n i [] ≡ got i []
 unfolding more
-more_end zero i s p h = refl
-more_end (suc k) i s p h = rw (drop_of_length-le s h)
+more_empty zero i = refl
+more_empty (suc n) i = refl
 
--- before another byte
-pub more_other : (k i : ℕ) (s : List ℕ) (p : ℕ) → p < length s → digit (get_or s p 0) ≡ false → more k i (drop p s) ≡ got i (drop p s)
-more_other k i s p h d = rw (drop-cons s p 0 h) (more_stops k i (get_or s p 0) (drop (suc p) s) d)
+-- where no digit stands
+pub more_ends : (n i : ℕ) (s : List ℕ) (p : ℕ) → digit_tells s p None → more n i (drop p s) ≡ got i (drop p s)
+more_ends n i s p d = ⊎_elim (λ h. rw (drop-cons s p 0 h) (more_stops n i (get_or s p 0) (drop (suc p) s) (d h))) (λ h. rw (drop_of_length-le s {i = p} h) (more_empty n i)) (cases_lt p (length s))
 
--- before a digit, where k were read
-pub more_turn : (k i : ℕ) (s : List ℕ) (p : ℕ) → k < 3 → p < length s → 48 ≤ get_or s p 0 → get_or s p 0 ≤ 57 → more (3 - k) i (drop p s) ≡ more (3 - (k + 1)) (i * 10 + (get_or s p 0 - 48)) (drop (p + 1) s)
+-- where one does
+pub more_turn : (n m i d : ℕ) (s : List ℕ) (p : ℕ) → digit_tells s p (Some d) → n ≡ suc m → more n i (drop p s) ≡ more m (i * 10 + d) (drop (p + 1) s)
+more_turn n m i d s p h e = rw (e, drop-cons s p 0 h.0, h.1, add-one p) (more_digit m i d (drop (suc p) s) h.2)
+
+-- where no more are allowed
+pub more_done : (n i : ℕ) (s : List ℕ) → n ≡ 0 → more n i s ≡ got i s
 unfolding more
-more_turn k i s p l h a b =
-    let x : 3 - k ≡ suc (3 - (k + 1)) = omega arith in
-    rw (x, drop-cons s p 0 h, digit_yes (get_or s p 0) a b, add-one p)
-
--- where three were read
-pub more_done : (k i : ℕ) (s : List ℕ) → 3 ≤ k → more (3 - k) i s ≡ got i s
-unfolding more
-more_done k i s h = let x : 3 - k ≡ 0 = omega arith in rw x
+more_done n i s e = rw e
 
 -- ---- all of them
 
-pub place_end : (s : List ℕ) (at : ℕ) → length s ≤ at → place (drop at s) ≡ none
+pub place_none : (s : List ℕ) (at : ℕ) → digit_tells s at None → place (drop at s) ≡ none
 unfolding place
-place_end s at h = rw (drop_of_length-le s h)
+place_none s at d = ⊎_elim (λ h. rw (drop-cons s at 0 h, d h)) (λ h. rw (drop_of_length-le s {i = at} h)) (cases_lt at (length s))
 
-pub place_other : (s : List ℕ) (at : ℕ) → at < length s → digit (get_or s at 0) ≡ false → place (drop at s) ≡ none
+pub place_zero : (s : List ℕ) (at d : ℕ) → digit_tells s at (Some d) → d ≡ 0 → place (drop at s) ≡ got 0 (drop (at + 1) s)
 unfolding place
-place_other s at h d = rw (drop-cons s at 0 h, d)
+place_zero s at d h e = rw (drop-cons s at 0 h.0, h.1, e, add-one at)
 
-pub place_zero : (s : List ℕ) (at : ℕ) → at < length s → get_or s at 0 ≡ 48 → place (drop at s) ≡ got 0 (drop (at + 1) s)
+pub place_digits : (s : List ℕ) (at d : ℕ) → digit_tells s at (Some d) → (d ≡ 0 → ⊥) → place (drop at s) ≡ more 3 d (drop (at + 1) s)
 unfolding place
-place_zero s at h e = rw (drop-cons s at 0 h, e, add-one at)
+place_digits s at d h n =
+    let a : 48 + d - 48 ≡ d = omega arith in
+    rw (drop-cons s at 0 h.0, h.1, digit_yes (48 + d) (omega (arith, h.2)) (omega (arith, h.2)), ne_eqb (48 + d) 48 (λ z. n (omega arith)), a, add-one at)
 
-pub place_digits : (s : List ℕ) (at : ℕ) → at < length s → 48 ≤ get_or s at 0 → get_or s at 0 ≤ 57 → (get_or s at 0 ≡ 48 → ⊥) → place (drop at s) ≡ more 3 (get_or s at 0 - 48) (drop (at + 1) s)
-unfolding place
-place_digits s at h a b n = rw (drop-cons s at 0 h, digit_yes (get_or s at 0) a b, ne_eqb (get_or s at 0) 48 n, add-one at)
+-- a place, by its first digit
+pub ruleset by_first_digit = (place_none, place_zero, place_digits)

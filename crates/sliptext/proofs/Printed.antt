@@ -25,7 +25,7 @@ place_of : ℕ → List ℕ → Got ℕ
 place_of k [] = none
 place_of k (a ∷ s) = cond (digit a) (cond (eqb a 48) (got 0 s) (more k (a - 48) s)) none
 
-more_digit : (k i d : ℕ) (r : List ℕ) → d < 10 → more (suc k) i ((48 + d) ∷ r) ≡ more k (i * 10 + d) r
+pub more_digit : (k i d : ℕ) (r : List ℕ) → d < 10 → more (suc k) i ((48 + d) ∷ r) ≡ more k (i * 10 + d) r
 unfolding more
 more_digit k i d r h = let x : 48 + d - 48 ≡ d = omega arith in rw (digit_yes (48 + d) (omega arith) (omega arith), x)
 

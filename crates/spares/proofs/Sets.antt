@@ -1,6 +1,6 @@
 -- Marks and sets of lines: the number that marks make, the marks that a number makes, and that none is left exactly if there is no spare.
 -- Assumes nothing.
-use mathlib.Core.Path.{◌≡◌, refl, sym, ◌∙◌}
+use mathlib.Core.Path.{◌≡◌, refl, sym, ap, ◌∙◌}
 use mathlib.Core.Bool.{Bool, true, false, cond, ◌&&◌}
 use mathlib.Core.List.{List, ◌∷◌, ◌++◌}
 use Prim.Native.Nat.{ℕ, zero, suc, ◌+◌, ◌-◌, ◌*◌, ◌/◌, ◌%◌, ◌^◌, ◌≤◌, ◌<◌}
@@ -8,8 +8,10 @@ use native.Mathlib.Omega.{arith}
 use native.Mathlib.Numerals.{add-one}
 use native.Mathlib.Nat.{pow-le-pow_right}
 use lib.Dec.{eqb}
+use mir.Val.{bool_byte}
 use borrow.Author.Tests.{eq-eqb, ne_eqb}
 use lib.ListN.{length, get_or, set}
+use lib.Seq.{set-get_or}
 use Rattle.meaning.specs.Pattern.{number, has}
 use Rattle.meaning.proofs.Flips.{has_append}
 use Rattle.meaning.proofs.Patterns.{number_below, number_agree}
@@ -25,6 +27,10 @@ use Rattle.spares.specs.Marks.{mark, marked_number, is_taken, none_left}
 pub marked_packed : (m : List Bool) (l : List ℕ) → ((i : ℕ) → i < 32 → get_or m i false ≡ has i l) → marked_number m ≡ packed l
 marked_packed m l h = number_agree 32 (λ i. get_or m i false) (λ i. has i l) h
 
+cond_byte : (b : Bool) → cond b 1 0 ≡ bool_byte b
+cond_byte true = refl
+cond_byte false = refl
+
 module _ (m : List Bool) where
   -- the number of those from line i on
   abbrev pub digits_from : ℕ → ℕ
@@ -34,19 +40,13 @@ module _ (m : List Bool) where
   digits_all = number_agree 32 _ _ (λ j h. let e : 0 + j ≡ j = omega arith in rw e)
 
   -- one digit more
-  digit_more : (i : ℕ) → i < 32 → digits_from i ≡ cond (get_or m i false) 1 0 + 2 * digits_from (i + 1)
+  pub digit_more : (i : ℕ) → i < 32 → digits_from i ≡ 2 * digits_from (i + 1) + bool_byte (get_or m i false)
   unfolding number
   digit_more i h =
       let e : 32 - i ≡ suc (32 - (i + 1)) = omega arith in
       let here : i + 0 ≡ i = omega arith in
       let later : number (32 - (i + 1)) (λ j. get_or m (i + suc j) false) ≡ digits_from (i + 1) = number_agree (32 - (i + 1)) _ _ (λ j b. let q : i + suc j ≡ i + 1 + j = omega arith in rw q) in
-      rw (e, here, later)
-
-  pub digit_1 : (i : ℕ) → i < 32 → get_or m i false ≡ true → digits_from i ≡ 2 * digits_from (i + 1) + 1
-  digit_1 i h e = digit_more i h ∙ rw e (omega arith)
-
-  pub digit_0 : (i : ℕ) → i < 32 → get_or m i false ≡ false → digits_from i ≡ 2 * digits_from (i + 1)
-  digit_0 i h e = digit_more i h ∙ rw e (omega arith)
+      rw (e, here, later) (omega (arith, cond_byte (get_or m i false)))
 
   pub digits_small : (i : ℕ) → 1 ≤ i → digits_from i < 2147483648
   digits_small i h =
@@ -59,12 +59,14 @@ unpacked_next : (i k : ℕ) → i < 32 → unpacked (32 - i) i k ≡ cond (eqb (
 unfolding unpacked
 unpacked_next i k h = let e : 32 - i ≡ suc (32 - (i + 1)) = omega arith in rw (e, add-one i)
 
-pub marks_here : (m : List Bool) (i k : ℕ) → i < 32 → eqb (k % 2) 1 ≡ true → mark (set m i true) (unpacked (32 - (i + 1)) (i + 1) (k / 2)) ≡ mark m (unpacked (32 - i) i k)
+-- a mark made of the lowest digit, where there was none
+pub marks_next : (m : List Bool) (i k : ℕ) → i < 32 → get_or m i false ≡ false → mark (set m i (eqb (k % 2) 1)) (unpacked (32 - (i + 1)) (i + 1) (k / 2)) ≡ mark m (unpacked (32 - i) i k)
 unfolding mark
-marks_here m i k h e = rw (unpacked_next i k h, e)
-
-pub marks_later : (m : List Bool) (i k : ℕ) → i < 32 → eqb (k % 2) 1 ≡ false → mark m (unpacked (32 - (i + 1)) (i + 1) (k / 2)) ≡ mark m (unpacked (32 - i) i k)
-marks_later m i k h e = rw (unpacked_next i k h, e)
+marks_next m i k h e = go (eqb (k % 2) 1) refl
+  where
+    go : (b : Bool) → eqb (k % 2) 1 ≡ b → mark (set m i b) (unpacked (32 - (i + 1)) (i + 1) (k / 2)) ≡ mark m (unpacked (32 - i) i k)
+    go true q = rw (unpacked_next i k h, q)
+    go false q = rw (unpacked_next i k h, q) (ap (λ l. mark l (unpacked (32 - (i + 1)) (i + 1) (k / 2))) (ap (set m i) (sym e) ∙ set-get_or m i false))
 
 pub marks_done : (m : List Bool) (i k : ℕ) → 32 ≤ i → mark m (unpacked (32 - i) i k) ≡ m
 unfolding unpacked mark
@@ -107,13 +109,3 @@ left_free n i k m t h e = sym (left_next n i k m t h ∙ rw e)
 pub left_end : (n i k : ℕ) (m : List Bool) (t : ℕ) → n ≤ i → true ≡ none_left (n - i) i k m t
 unfolding none_left
 left_end n i k m t h = let e : n - i ≡ 0 = omega arith in rw e
-
--- one line, test by test
-pub taken_kept : (k i t : ℕ) (b : Bool) → k % 2 ≡ 1 → true ≡ is_taken k i t b
-taken_kept k i t b e = rw (eq-eqb (k % 2) 1 e)
-
-pub taken_target : (k i t : ℕ) (b : Bool) → (k % 2 ≡ 1 → ⊥) → i ≡ t → true ≡ is_taken k i t b
-taken_target k i t b n e = rw (ne_eqb (k % 2) 1 n, eq-eqb i t e)
-
-pub taken_marked : (k i t : ℕ) (b : Bool) → (k % 2 ≡ 1 → ⊥) → (i ≡ t → ⊥) → b ≡ is_taken k i t b
-taken_marked k i t b n m = rw (ne_eqb (k % 2) 1 n, ne_eqb i t m)

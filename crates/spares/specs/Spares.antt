@@ -1,7 +1,7 @@
 -- The spare lines of a gate as the code holds them. Assumes nothing.
 use Rattle.std.specs.Prelude.{◌≡◌, List, ℕ}
 use Rattle.std.proofs.Math.Seq.{slice}
-use Rattle.spares.specs.declared.Spares.{Spares}
+use Rattle.spares.specs.declared.spare_lines.Spares.{Spares}
 
 -- the spares, in order: those of the lines from `first` up to `end`
 unfoldable pub listed : Spares → List ℕ

@@ -1,4 +1,5 @@
-// The spare lines of an mct gate: the lines that it does not name and that nobody keeps.
+// The spare lines of an mct gate: the lines that it does not name and that nobody keeps. How many lines there are and which are kept are two arguments
+// here and in the expansion: the head of a text has both, and nothing is known of texts below.
 #![tactic(auto)]
 
 ghost use Rattle.std.specs.Prelude.{◌≡◌, ◌∷◌, ◌++◌, ◌≤◌, ◌<◌, length};
@@ -8,18 +9,17 @@ ghost use Rattle.cascades.specs.Cascade.{Below};
 ghost use Rattle.spares.specs.Marks.{marks as marks_of, unmarked, marked_number, is_taken, none_left as all_taken};
 ghost use Rattle.spares.specs.Spares.{Lists};
 
+mod spare_lines;
+
+pub use spare_lines::Spares;
+
 // The set of the lines that have a mark, as a number: bit a is 1 if line a is in it.
 pub fn packed(marks: [bool; 32]) -> u32
     ensures { result ≡ marked_number marks }
 {
     let mut set = 0;
-    let mut i = 32;
-    while 0 < i {
-        i -= 1;
-        set = 2 * set;
-        if marks[i] {
-            set += 1;
-        }
+    for i in (0..32).rev() {
+        set = 2 * set + u32::from(marks[i]);
     }
     set
 }
@@ -30,13 +30,9 @@ fn unpacked_marks(set: u32) -> [bool; 32]
 {
     let mut marks = [false; 32];
     let mut rest = set;
-    let mut i = 0;
-    while i < 32 {
-        if rest % 2 == 1 {
-            marks[i] = true;
-        }
+    for mark in &mut marks {
+        *mark = rest % 2 == 1;
         rest /= 2;
-        i += 1;
     }
     marks
 }
@@ -48,21 +44,11 @@ fn named(kept: u32, controls: &[u8], target: u8) -> [bool; 32]
     ensures { result ≡ marks_of (unpacked 32 0 kept ++ (target ∷ controls.now)) }
 {
     let mut marks = unpacked_marks(kept);
-    marks[target as usize] = true;
-    let mut i = 0;
-    while i < controls.len() {
-        marks[controls[i] as usize] = true;
-        i += 1;
+    marks[usize::from(target)] = true;
+    for c in controls {
+        marks[usize::from(*c)] = true;
     }
     marks
-}
-
-// The spare lines of a gate, in order: those of `lines` from `first` up to `end`.
-#[derive(Clone, Copy)]
-pub struct Spares {
-    pub lines: [u8; 32],
-    pub first: usize,
-    pub end: usize,
 }
 
 // All lines without a mark, rising.
@@ -72,13 +58,11 @@ fn unmarked_lines(marks: [bool; 32], lines: u8) -> Spares
 {
     let mut found = [0; 32];
     let mut count = 0;
-    let mut i = 0;
-    while i < lines {
-        if !marks[i as usize] {
+    for i in 0..lines {
+        if !marks[usize::from(i)] {
             found[count] = i;
             count += 1;
         }
-        i += 1;
     }
     Spares {
         lines: found,
@@ -101,13 +85,7 @@ pub fn unnamed(lines: u8, kept: u32, controls: &[u8], target: u8) -> Spares
 fn taken(set: u32, i: u8, target: u8, marked: bool) -> bool
     ensures { result ≡ is_taken set i target marked }
 {
-    if set % 2 == 1 {
-        return true;
-    }
-    if i == target {
-        return true;
-    }
-    marked
+    set % 2 == 1 || i == target || marked
 }
 
 // Whether an mct has no spare: each line has a mark, as a control, is the target, or is kept.
@@ -116,13 +94,11 @@ pub fn none_left(lines: u8, kept: u32, marks: [bool; 32], target: u8) -> bool
     ensures { result ≡ all_taken lines 0 kept marks target }
 {
     let mut rest = kept;
-    let mut i = 0;
-    while i < lines {
-        if !taken(rest, i, target, marks[i as usize]) {
+    for i in 0..lines {
+        if !taken(rest, i, target, marks[usize::from(i)]) {
             return false;
         }
         rest /= 2;
-        i += 1;
     }
     true
 }

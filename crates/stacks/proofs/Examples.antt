@@ -5,7 +5,7 @@ use mathlib.Core.List.{[], ◌∷◌}
 use Prim.Native.Nat.{ℕ, zero, suc, ◌/◌, ◌%◌, ◌≤◌, ◌<◌}
 use native.Mathlib.Omega.{arith}
 use lib.ListN.{get_or}
-use Rattle.stacks.specs.declared.Partner.TheVariants.{At, Nowhere}
+use Rattle.std.specs.Prelude.{Some, None}
 use Rattle.gates.specs.Code.{joined}
 use Rattle.stacks.specs.Remaining.{picked, kept, remaining}
 use Rattle.stacks.specs.Found.{Found}
@@ -28,7 +28,7 @@ unfolding remaining kept picked
 gaps = refl
 
 -- `cn 1 0` stands between `v 0 1` and the new `vp 0 1`, which has no partner
-blocked : Found (137 ∷ 10 ∷ []) 2 139 Nowhere
+blocked : Found (137 ∷ 10 ∷ []) 2 139 None
 blocked = meets_nowhere 139 (137 ∷ 10 ∷ []) 2 (omega arith) (λ j m. none j m)
   where
     none : (j : ℕ) → Meets (137 ∷ 10 ∷ []) 2 139 j → ⊥
@@ -37,7 +37,7 @@ blocked = meets_nowhere 139 (137 ∷ 10 ∷ []) 2 (omega arith) (λ j m. none j 
     none (suc (suc j)) m = omega (arith, m.inside)
 
 -- once it is removed, `v 0 1` is the partner
-cleared : Found (137 ∷ 8 ∷ []) 2 139 (At 0)
+cleared : Found (137 ∷ 8 ∷ []) 2 139 (Some 0)
 cleared = meets_at 139 (137 ∷ 8 ∷ []) 2 0 (omega arith) (record { inside = omega arith; there = omega arith; site = refl; free = λ i a b c. between i a b c })
   where
     between : (i : ℕ) → 0 < i → i < 2 → 1 ≤ get_or (137 ∷ 8 ∷ []) i 0 % 4 → Clear (139 / 4) (get_or (137 ∷ 8 ∷ []) i 0 / 4)

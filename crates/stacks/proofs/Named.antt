@@ -10,15 +10,14 @@ use Rattle.gates.specs.Code.{gate, gates}
 use Rattle.partners.specs.Shortest.{Shortest}
 use Rattle.partners.specs.Partner.{Brought, NoPartner}
 use Rattle.partners.proofs.PartnerSearch.{at_most_one}
-use Rattle.stacks.specs.declared.Partner.{Partner}
-use Rattle.stacks.specs.declared.Partner.TheVariants.{At, Nowhere}
+use Rattle.std.specs.Prelude.{Option, Some, None}
 use Rattle.stacks.specs.Remaining.{remaining}
 use Rattle.stacks.specs.Found.{Found}
 
 module _ (l : List ℕ) (n g : ℕ) where
-  pub only_named : (k j i : ℕ) → Shortest k (gates (remaining (take n l))) → Found l n g (At j) → Brought (gates (remaining (take n l))) (gate g) i → i ≡ length (remaining (take j l))
+  pub only_named : (k j i : ℕ) → Shortest k (gates (remaining (take n l))) → Found l n g (Some j) → Brought (gates (remaining (take n l))) (gate g) i → i ≡ length (remaining (take j l))
   only_named k j i w f b = at_most_one k w b f.brought
 
-  pub none_named : (r : Partner) → Found l n g r → (r ≡ Nowhere) ↔ NoPartner (gates (remaining (take n l))) (gate g)
-  none_named (At j) f = (λ e. absurd (let z : ◌≡◌ {A = ℕ} 0 1 = cc in omega arith), λ none. absurd (none (length (remaining (take j l))) f.brought))
-  none_named Nowhere f = (λ e. f, λ none. refl)
+  pub none_named : (r : Option ℕ) → Found l n g r → (r ≡ None) ↔ NoPartner (gates (remaining (take n l))) (gate g)
+  none_named (Some j) f = (λ e. absurd (let z : ◌≡◌ {A = ℕ} 0 1 = cc in omega arith), λ none. absurd (none (length (remaining (take j l))) f.brought))
+  none_named None f = (λ e. f, λ none. refl)

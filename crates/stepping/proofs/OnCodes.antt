@@ -5,6 +5,9 @@ use Prim.Native.Nat.{ℕ, suc, ◌-◌, ◌≤◌, ◌<◌}
 use native.Mathlib.Omega.{arith}
 use lib.ListN.{length, get_or, take, drop, set, length-set}
 use lib.Seq.{length-take-le, split_at, drop-cons, get_or-take, take-set-lt, set-append_seam}
+use Rattle.std.specs.List.{swap}
+use Rattle.std.specs.Prelude.{Ok}
+use Rattle.std.proofs.lemmas.List.Edits.{swap_is, length-swap}
 use Rattle.gates.specs.declared.Gate.{Gate}
 use Rattle.gates.specs.Circuit.{Passes}
 use Rattle.gates.specs.Sites.{Same}
@@ -14,7 +17,6 @@ use Rattle.gates.proofs.CodeLists.{length_gates, gates_append}
 use Rattle.gates.proofs.CodePairs.{same_site, merged_none, merged_one, code_joined}
 use Rattle.stepping.specs.Slip.{Effect, makes, not_allowed, amid, passing, merging, at_place}
 use Rattle.stepping.specs.Stepped.{without, Circuit, StepsTo}
-use Rattle.stepping.specs.declared.Stepped.TheVariants.{Next, Refused}
 use Rattle.stepping.proofs.Steps.{passing_passes, passing_not, merging_same, merging_not_same, at_neighbours}
 
 -- ---- the two neighbours
@@ -98,48 +100,54 @@ cut_one (cut u v a b) k =
 
 -- ---- a step on the first m numbers, at a place with a right neighbour
 
-pub cut_front : (codes : List ℕ) (m i : ℕ) → Circuit m codes → 1 ≤ i → i < m → Cut (take m codes) i (get_or codes (i - 1) 0) (get_or codes i 0)
-cut_front codes m i w h k =
-    let e : suc (i - 1) ≡ i = omega arith in
-    rw (e, get_or-take m codes (i - 1) 0 (omega arith), get_or-take m codes i 0 k) at (cut_at (take m codes) (i - 1) (omega (arith, length-take-le m codes w.fits)))
+module _ (codes : List ℕ) (m i line : ℕ) (w : Circuit m codes) (h : 1 ≤ i) (k : i < m) where
+  abbrev a : ℕ
+  a = get_or codes (i - 1) 0
 
-module _ (codes : List ℕ) (m i line a b : ℕ) (w : Circuit m codes) (q : Cut (take m codes) i a b) where
+  abbrev b : ℕ
+  b = get_or codes i 0
+
+  front : Cut (take m codes) i a b
+  front =
+      let e : suc (i - 1) ≡ i = omega arith in
+      rw (e, get_or-take m codes (i - 1) 0 (omega arith), get_or-take m codes i 0 k) at (cut_at (take m codes) (i - 1) (omega (arith, length-take-le m codes w.fits)))
+
   -- x is put in their place
-  made : (f : Gate → Gate → Effect) (x : List ℕ) (n : ℕ) (exit : List ℕ) → f (gate a) (gate b) ≡ makes (gates x) → AllCodes 32 x → n ≤ length exit → length exit ≡ length codes → take n exit ≡ replaced q x → StepsTo (at_place f i (gates (take m codes))) line codes exit (Next n)
+  made : (f : Gate → Gate → Effect) (x : List ℕ) (n : ℕ) (exit : List ℕ) → f (gate a) (gate b) ≡ makes (gates x) → AllCodes 32 x → n ≤ length exit → length exit ≡ length codes → take n exit ≡ replaced front x → StepsTo (at_place f i (gates (take m codes))) line codes exit (Ok n)
   made f x n exit e c s l r =
-      (rw r (cut_makes f q x e), record { fits = s; codes = rw r (cut_codes q x w.codes c) }, l)
+      (rw r (cut_makes f front x e), record { fits = s; codes = rw r (cut_codes front x w.codes c) }, l)
 
   -- they do not pass
-  pub pass_refused : (Passes (gate a) (gate b) → ⊥) → StepsTo (at_place passing i (gates (take m codes))) line codes codes (Refused line)
-  pass_refused p = (cut_refused passing q (passing_not p), refl, refl)
+  pub pass_refused : (Passes (gate a) (gate b) → ⊥) → at_place passing i (gates (take m codes)) ≡ not_allowed
+  pass_refused p = cut_refused passing front (passing_not p)
 
   -- they have not one site
-  pub merge_refused : (Same (gate a) (gate b) → ⊥) → StepsTo (at_place merging i (gates (take m codes))) line codes codes (Refused line)
-  merge_refused s = (cut_refused merging q (merging_not_same s), refl, refl)
+  pub merge_refused : (Same (gate a) (gate b) → ⊥) → at_place merging i (gates (take m codes)) ≡ not_allowed
+  merge_refused s = cut_refused merging front (merging_not_same s)
 
-  module _ (h : 1 ≤ i) (k : i < m) where
-    -- they change places
-    pub passed : Passes (gate a) (gate b) → StepsTo (at_place passing i (gates (take m codes))) line codes (set (set codes (i - 1) b) i a) (Next m)
-    passed p =
-        let l : length (set (set codes (i - 1) b) i a) ≡ length codes = length-set (set codes (i - 1) b) i a ∙ length-set codes (i - 1) b in
-        let e : take m (set (set codes (i - 1) b) i a) ≡ replaced q (b ∷ a ∷ []) = take-set-lt m (set codes (i - 1) b) i a k ∙ ap (λ (x : List ℕ). set x i a) (take-set-lt m codes (i - 1) b (omega arith)) ∙ cut_exchange q in
-        let c = cut_two q w.codes in
-        made passing (b ∷ a ∷ []) m (set (set codes (i - 1) b) i a) (passing_passes p) (c.1, (c.0, tt)) (omega (arith, w.fits)) l e
+  -- they change places
+  pub passed : Passes (gate a) (gate b) → StepsTo (at_place passing i (gates (take m codes))) line codes (swap codes (i - 1) i) (Ok m)
+  passed p =
+      let q : set (set codes (i - 1) b) i a ≡ swap codes (i - 1) i = swap_is codes (i - 1) i 0 (omega (arith, w.fits)) (omega (arith, w.fits)) in
+      let e : take m (swap codes (i - 1) i) ≡ replaced front (b ∷ a ∷ []) = rw (sym q) (take-set-lt m (set codes (i - 1) b) i a k ∙ ap (λ (x : List ℕ). set x i a) (take-set-lt m codes (i - 1) b (omega arith)) ∙ cut_exchange front) in
+      let c = cut_two front w.codes in
+      let l = length-swap codes (i - 1) i in
+      made passing (b ∷ a ∷ []) m (swap codes (i - 1) i) (passing_passes p) (c.1, (c.0, tt)) (omega (arith, w.fits)) l e
 
-    -- the second is taken out
-    module _ (s : Same (gate a) (gate b)) (rest : List ℕ) (l : length rest ≡ length codes) (r : take (m - 1) rest ≡ without i (take m codes)) where
-      -- and the first is merged with it
-      pub merged_into : (total a b ≡ 0 → ⊥) → StepsTo (at_place merging i (gates (take m codes))) line codes (set rest (i - 1) (joined a b)) (Next (m - 1))
-      merged_into n =
-          let c = cut_two q w.codes in
-          let j : length (set rest (i - 1) (joined a b)) ≡ length codes = length-set rest (i - 1) (joined a b) ∙ l in
-          let e : take (m - 1) (set rest (i - 1) (joined a b)) ≡ replaced q (joined a b ∷ []) = take-set-lt (m - 1) rest (i - 1) (joined a b) (omega arith) ∙ rw r (cut_one q (joined a b)) in
-          made merging (joined a b ∷ []) (m - 1) (set rest (i - 1) (joined a b)) (merging_same s ∙ ap makes (merged_one a b c.0 c.1 (same_site a b s) n)) (code_joined a b c.0 c.1 (same_site a b s) n, tt) (omega (arith, w.fits)) j e
+  -- the second is taken out
+  module _ (s : Same (gate a) (gate b)) (rest : List ℕ) (l : length rest ≡ length codes) (r : take (m - 1) rest ≡ without i (take m codes)) where
+    -- and the first is merged with it
+    pub merged_into : (total a b ≡ 0 → ⊥) → StepsTo (at_place merging i (gates (take m codes))) line codes (set rest (i - 1) (joined a b)) (Ok (m - 1))
+    merged_into n =
+        let c = cut_two front w.codes in
+        let j : length (set rest (i - 1) (joined a b)) ≡ length codes = length-set rest (i - 1) (joined a b) ∙ l in
+        let e : take (m - 1) (set rest (i - 1) (joined a b)) ≡ replaced front (joined a b ∷ []) = take-set-lt (m - 1) rest (i - 1) (joined a b) (omega arith) ∙ rw r (cut_one front (joined a b)) in
+        made merging (joined a b ∷ []) (m - 1) (set rest (i - 1) (joined a b)) (merging_same s ∙ ap makes (merged_one a b c.0 c.1 (same_site a b s) n)) (code_joined a b c.0 c.1 (same_site a b s) n, tt) (omega (arith, w.fits)) j e
 
-      -- and so is the first
-      pub vanished : total a b ≡ 0 → (exit : List ℕ) → length exit ≡ length codes → take (m - 1 - 1) exit ≡ without (i - 1) (take (m - 1) rest) → StepsTo (at_place merging i (gates (take m codes))) line codes exit (Next (m - 2))
-      vanished z exit j f =
-          let c = cut_two q w.codes in
-          let d : m - 2 ≡ m - 1 - 1 = omega arith in
-          let e : take (m - 2) exit ≡ replaced q [] = rw d (f ∙ rw r (cut_none q)) in
-          made merging [] (m - 2) exit (merging_same s ∙ ap makes (merged_none a b c.0 c.1 (same_site a b s) z)) tt (omega (arith, w.fits)) j e
+    -- and so is the first
+    pub vanished : total a b ≡ 0 → (exit : List ℕ) → length exit ≡ length codes → take (m - 1 - 1) exit ≡ without (i - 1) (take (m - 1) rest) → StepsTo (at_place merging i (gates (take m codes))) line codes exit (Ok (m - 2))
+    vanished z exit j f =
+        let c = cut_two front w.codes in
+        let d : m - 2 ≡ m - 1 - 1 = omega arith in
+        let e : take (m - 2) exit ≡ replaced front [] = rw d (f ∙ rw r (cut_none front)) in
+        made merging [] (m - 2) exit (merging_same s ∙ ap makes (merged_none a b c.0 c.1 (same_site a b s) z)) tt (omega (arith, w.fits)) j e

@@ -6,7 +6,7 @@ use Prim.Native.Nat.{ℕ, suc, ◌+◌, ◌/◌, ◌%◌, ◌≤◌, ◌<◌}
 use native.Mathlib.Omega.{arith}
 use lib.Dec.{eqb}
 use lib.ListN.{length, get_or, take, drop, length-map, get_or-map, drop_of_length-le}
-use lib.Seq.{length-take-le, drop-cons, get_or-take}
+use lib.Seq.{drop-cons}
 use borrow.Author.Tests.{eq-eqb, ne_eqb}
 use Rattle.gates.specs.declared.Gate.{Gate}
 use Rattle.gates.specs.Code.{gates}
@@ -52,34 +52,34 @@ pub so_far_start : (ss : List SlipStep) {m : ℕ} {list : List ℕ} → Circuit 
 unfolding run
 so_far_start ss w = record { left = w; same = refl }
 
-module _ (steps : List ℕ) (k i : ℕ) (c : List Gate) (n : ℕ) (list : List ℕ) (h : k ≤ length steps) (q : SoFar (slip_steps (take k steps)) c i n list) where
+module _ (steps : List ℕ) (i : ℕ) (c : List Gate) (n : ℕ) (list : List ℕ) (q : SoFar (slip_steps steps) c i n list) where
   rest : List SlipStep
-  rest = drop (suc i) (slip_steps (take k steps))
+  rest = drop (suc i) (slip_steps steps)
 
   -- the step on line i + 1 comes next
-  next_step : i < k → drop i (slip_steps (take k steps)) ≡ slip_step (get_or steps i 0) ∷ rest
+  next_step : i < length steps → drop i (slip_steps steps) ≡ slip_step (get_or steps i 0) ∷ rest
   unfolding rest
   next_step b =
-      let d : i < length (slip_steps (take k steps)) = omega (arith, length-map (take k steps) slip_step, length-take-le k steps h) in
-      drop-cons (slip_steps (take k steps)) i (slip_step 0) d ∙ rw (get_or-map slip_step (take k steps) i 0, get_or-take k steps i 0 b)
+      let d : i < length (slip_steps steps) = omega (arith, length-map steps slip_step) in
+      drop-cons (slip_steps steps) i (slip_step 0) d ∙ rw (get_or-map slip_step steps i 0)
 
-  next_run : i < k → run (slip_steps (take k steps)) c ≡ run_from (suc i) (slip_step (get_or steps i 0) ∷ rest) (gates (take n list))
+  next_run : i < length steps → run (slip_steps steps) c ≡ run_from (suc i) (slip_step (get_or steps i 0) ∷ rest) (gates (take n list))
   next_run b = q.same ∙ rw (next_step b)
 
   -- it is allowed
-  pub so_far_more : i < k → (m : ℕ) (exit : List ℕ) → effect (slip_step (get_or steps i 0)) (gates (take n list)) ≡ makes (gates (take m exit)) → Circuit m exit → SoFar (slip_steps (take k steps)) c (i + 1) m exit
+  pub so_far_more : i < length steps → (m : ℕ) (exit : List ℕ) → effect (slip_step (get_or steps i 0)) (gates (take n list)) ≡ makes (gates (take m exit)) → Circuit m exit → SoFar (slip_steps steps) c (i + 1) m exit
   unfolding rest
   so_far_more b m exit e w =
       let z : i + 1 ≡ suc i = omega arith in
       record { left = w; same = rw z (next_run b ∙ run_makes (suc i) (slip_step (get_or steps i 0)) rest (gates (take n list)) (gates (take m exit)) e) }
 
   -- it is not
-  pub so_far_refused : i < k → (l : ℕ) → effect (slip_step (get_or steps i 0)) (gates (take n list)) ≡ not_allowed → l ≡ i + 1 → run (slip_steps (take k steps)) c ≡ refused_at l
+  pub so_far_refused : i < length steps → (l : ℕ) → effect (slip_step (get_or steps i 0)) (gates (take n list)) ≡ not_allowed → l ≡ i + 1 → run (slip_steps steps) c ≡ refused_at l
   so_far_refused b l e z = let y : l ≡ suc i = omega arith in rw y (next_run b ∙ run_not_allowed (suc i) (slip_step (get_or steps i 0)) rest (gates (take n list)) e)
 
   -- there is no step left
-  pub so_far_end : k ≤ i → run (slip_steps (take k steps)) c ≡ ends_at (gates (take n list))
+  pub so_far_end : length steps ≤ i → run (slip_steps steps) c ≡ ends_at (gates (take n list))
   unfolding run_from
   so_far_end b =
-      let d : length (slip_steps (take k steps)) ≤ i = omega (arith, length-map (take k steps) slip_step, length-take-le k steps h) in
-      q.same ∙ rw (drop_of_length-le (slip_steps (take k steps)) d)
+      let d : length (slip_steps steps) ≤ i = omega (arith, length-map steps slip_step) in
+      q.same ∙ rw (drop_of_length-le (slip_steps steps) d)

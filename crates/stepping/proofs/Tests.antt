@@ -5,7 +5,7 @@ use mathlib.Core.Bool.{Bool, true, false, not}
 use Prim.Native.Nat.{ℕ, ◌+◌, ◌/◌, ◌%◌}
 use native.Mathlib.Omega.{arith}
 use lib.Dec.{eqb}
-use borrow.Author.Tests.{eqb-true, eqb-false}
+use borrow.Author.Tests.{eq-eqb, eqb-true, eqb-false}
 use Rattle.gates.specs.Circuit.{Passes}
 use Rattle.gates.specs.Sites.{Same}
 use Rattle.gates.specs.Code.{gate}
@@ -15,8 +15,8 @@ use Rattle.gates.proofs.CodePairs.{one_site, same_site}
 
 module _ (a b : ℕ) where
   -- the first's target is the second's control
-  pub first_on_control : a / 132 + 1 ≡ b / 4 % 33 → Passes (gate a) (gate b) → ⊥
-  first_on_control e p = p.there (omega (arith, target_gate a, slot_gate b))
+  pub first_on_control : a / 132 + 1 ≡ b / 4 % 33 → Whether (Passes (gate a) (gate b)) (not (eqb (a / 132 + 1) (b / 4 % 33)))
+  first_on_control e = rw (eq-eqb (a / 132 + 1) (b / 4 % 33) e) (λ p. p.there (omega (arith, target_gate a, slot_gate b)))
 
   -- it is not, and so the other way round decides
   pub whether_pass : a / 132 + 1 ≢ b / 4 % 33 → Whether (Passes (gate a) (gate b)) (not (eqb (b / 132 + 1) (a / 4 % 33)))

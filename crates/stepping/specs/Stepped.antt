@@ -1,9 +1,8 @@
 -- What the code of steps promises: a circuit is the numbers of its gates, a slip's step is a number too. Assumes nothing.
-use Rattle.std.specs.Prelude.{◌≡◌, cond, List, map, ◌++◌, ℕ, suc, ◌/◌, ◌%◌, ◌≤◌, eqb, length, take, drop}
+use Rattle.std.specs.Prelude.{◌≡◌, cond, List, map, ◌++◌, ℕ, suc, ◌/◌, ◌%◌, ◌≤◌, eqb, length, take, drop, Result, Ok, Err}
 use Rattle.gates.specs.Code.{gates, AllCodes}
 use Rattle.stepping.specs.Slip.{SlipStep, pass_at, merge_at, Effect, makes, not_allowed, End, ends_at, refused_at}
-use Rattle.stepping.specs.declared.Stepped.{Stepped}
-use Rattle.stepping.specs.declared.Stepped.TheVariants.{Next, Refused}
+use Rattle.stepping.specs.declared.NotAllowed.{NotAllowed}
 
 -- a list without its element at i
 unfoldable pub without : ℕ → List ℕ → List ℕ
@@ -21,9 +20,9 @@ unfoldable pub slip_step : ℕ → SlipStep
 slip_step x = cond (eqb (x % 2) 0) (pass_at (x / 2)) (merge_at (x / 2))
 
 -- a step of this effect, on this line of the slip: the first m of the exit are the circuit that it makes; or it is not allowed
-abbrev pub StepsTo : Effect → (line : ℕ) → (entry exit : List ℕ) → Stepped → Type 0
-StepsTo e line entry exit (Next m) = (e ≡ makes (gates (take m exit))) × Circuit m exit × (length exit ≡ length entry)
-StepsTo e line entry exit (Refused l) = (e ≡ not_allowed) × (l ≡ line) × (length exit ≡ length entry)
+abbrev pub StepsTo : Effect → (line : ℕ) → (entry exit : List ℕ) → Result ℕ NotAllowed → Type 0
+StepsTo e line entry exit (Ok m) = (e ≡ makes (gates (take m exit))) × Circuit m exit × (length exit ≡ length entry)
+StepsTo e line entry exit (Err r) = (e ≡ not_allowed) × (r.line ≡ line) × (length exit ≡ length entry)
 
 -- ---- a slip
 
@@ -31,7 +30,7 @@ StepsTo e line entry exit (Refused l) = (e ≡ not_allowed) × (l ≡ line) × (
 abbrev pub slip_steps : List ℕ → List SlipStep
 slip_steps l = map slip_step l
 
--- a slip with this end: the first m of the exit are the circuit at which it ends; or it is refused at line l
-abbrev pub RunsTo : End → (entry exit : List ℕ) → Stepped → Type 0
-RunsTo e entry exit (Next m) = (e ≡ ends_at (gates (take m exit))) × Circuit m exit × (length exit ≡ length entry)
-RunsTo e entry exit (Refused l) = (e ≡ refused_at l) × (length exit ≡ length entry)
+-- a slip with this end: the first m of the exit are the circuit at which it ends; or it is refused at this line
+abbrev pub RunsTo : End → (entry exit : List ℕ) → Result ℕ NotAllowed → Type 0
+RunsTo e entry exit (Ok m) = (e ≡ ends_at (gates (take m exit))) × Circuit m exit × (length exit ≡ length entry)
+RunsTo e entry exit (Err r) = (e ≡ refused_at r.line) × (length exit ≡ length entry)

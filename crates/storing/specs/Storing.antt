@@ -1,14 +1,10 @@
 -- A gate list as numbers, and what stands in it after a job has handed something over for it. Assumes nothing.
-use Rattle.std.specs.Prelude.{List, ◌++◌, ℕ, ◌-◌, ◌≤◌, length, get_or, take, drop, replicate}
+use Rattle.std.specs.Prelude.{List, ◌++◌, ℕ, ◌-◌, take, drop, replicate}
 use Rattle.records.specs.declared.Filling.{Filling}
 
 -- the number of `not 0`
 abbrev pub not_0 : ℕ
 not_0 = 2
-
--- record i: code i of the first `count`, else `not 0`
-abbrev pub record_at : List ℕ → ℕ → ℕ → ℕ
-record_at ks count i = get_or (take count ks) i not_0
 
 -- the first `limit` records: the first `count` codes, and `not 0` in every later one
 abbrev pub front : List ℕ → ℕ → ℕ → List ℕ
@@ -21,9 +17,3 @@ written ks count limit l = front ks count limit ++ drop limit l
 -- a list after a job has handed f over for it
 abbrev pub stored : Filling → List ℕ → List ℕ
 stored f l = written f.codes f.gates f.limit l
-
--- the first `count` codes are there, and `limit` records
-pub record Storable (ks : List ℕ) (count limit room : ℕ) : Type 0 where
-  pub there : count ≤ length ks
-  pub few : count ≤ limit
-  pub within : limit ≤ room

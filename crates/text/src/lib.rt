@@ -22,6 +22,34 @@ pub enum Refusal {
     OtherEnd,
 }
 
+// The refusal of a text, and the line that it is about, counted from 1; 0 where no line is meant.
+#[derive(Clone, Copy)]
+pub struct Refused {
+    pub refusal: Refusal,
+    pub line: usize,
+}
+
+// The refusal of one of several texts: its number, counted from 1, and the line; 0 where no one of them, or no line, is meant.
+#[derive(Clone, Copy)]
+pub struct TextRefused {
+    pub refusal: Refusal,
+    pub text: u8,
+    pub line: usize,
+}
+
+impl Refused {
+    // The refusal, where the text is one of several.
+    pub fn in_text(self, text: u8) -> TextRefused
+        ensures { (result.refusal ≡ self.refusal) × (result.text ≡ text) × (result.line ≡ self.line) }
+    {
+        TextRefused {
+            refusal: self.refusal,
+            text,
+            line: self.line,
+        }
+    }
+}
+
 // The two texts: a cascade of mct gates, and a circuit.
 #[derive(Clone, Copy)]
 pub enum Kind {
@@ -53,22 +81,24 @@ pub const V: [u8; 3] = *b"(v ";
 pub const VP: [u8; 4] = *b"(vp ";
 
 // The number of a refusal in document 01's table.
-pub fn number(r: Refusal) -> u8
-    ensures { result ≡ number_of r }
-{
-    match r {
-        Refusal::Overlong => 1,
-        Refusal::ShortList => 2,
-        Refusal::Malformed => 3,
-        Refusal::NoSuchLine => 4,
-        Refusal::Crossed => 5,
-        Refusal::Unsorted => 6,
-        Refusal::TooWide => 7,
-        Refusal::NoSpare => 8,
-        Refusal::TooMany => 9,
-        Refusal::ShortAnswer => 10,
-        Refusal::DifferentLines => 11,
-        Refusal::NotAllowed => 12,
-        Refusal::OtherEnd => 13,
+impl From<Refusal> for u8 {
+    ghost from_gives = { λ r n. n ≡ number_of r };
+
+    fn from(r: Refusal) -> u8 {
+        match r {
+            Refusal::Overlong => 1,
+            Refusal::ShortList => 2,
+            Refusal::Malformed => 3,
+            Refusal::NoSuchLine => 4,
+            Refusal::Crossed => 5,
+            Refusal::Unsorted => 6,
+            Refusal::TooWide => 7,
+            Refusal::NoSpare => 8,
+            Refusal::TooMany => 9,
+            Refusal::ShortAnswer => 10,
+            Refusal::DifferentLines => 11,
+            Refusal::NotAllowed => 12,
+            Refusal::OtherEnd => 13,
+        }
     }
 }

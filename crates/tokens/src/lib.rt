@@ -1,86 +1,71 @@
-// The tokens of a line, numbers and fixed bytes, read at a place of the text; the place after them is given.
+// The tokens of a line, numbers and fixed bytes, read at a place of the text; the place after them is given. Text and place are two arguments in all
+// that reads a line: what is read is said of the bytes from the place on, and each function hands on a place of its own. `Reader` has both above.
 #![tactic(auto)]
 
 ghost use Rattle.std.specs.Prelude.{◌≤◌, length, drop};
 ghost use Rattle.text.specs.Reading.{num, strip};
-ghost use Rattle.tokens.specs.Seen.{delimited, number_tells, found_tells};
+ghost use Rattle.tokens.specs.Seen.{delimited, digit_tells, tells, found_tells};
 
-// A number and the place after it.
+// What was read, and the place after it.
 #[derive(Clone, Copy)]
-pub enum Number {
-    Is(u8, usize),
-    Missing,
+pub struct Parsed<T> {
+    pub value: T,
+    pub end: usize,
 }
 
-// The place after fixed bytes.
-#[derive(Clone, Copy)]
-pub enum Found {
-    At(usize),
-    Missing,
+// The digit at a place, by its value.
+pub fn digit(s: &[u8], at: usize) -> Option<u8>
+    ensures { digit_tells s.now at result }
+{
+    let &b = s.get(at)?;
+    if !b.is_ascii_digit() {
+        return None;
+    }
+    Some(b - b'0')
 }
 
 // A number: one or two digits, the first of two no 0.
-fn one_number(s: &[u8], at: usize) -> Number
-    ensures { number_tells s.now at (num (drop at s.now)) result }
+fn one_number(s: &[u8], at: usize) -> Option<Parsed<u8>>
+    ensures { tells s.now at (num (drop at s.now)) result }
 {
-    if s.len() <= at {
-        return Number::Missing;
+    let a = digit(s, at)?;
+    let one = Parsed {
+        value: a,
+        end: at + 1,
+    };
+    if a == 0 {
+        return Some(one);
     }
-    let a = s[at];
-    if a < b'0' {
-        return Number::Missing;
-    }
-    if b'9' < a {
-        return Number::Missing;
-    }
-    let p = at + 1;
-    if a == b'0' {
-        return Number::Is(0, p);
-    }
-    if s.len() <= p {
-        return Number::Is(a - b'0', p);
-    }
-    let b = s[p];
-    if b < b'0' {
-        return Number::Is(a - b'0', p);
-    }
-    if b'9' < b {
-        return Number::Is(a - b'0', p);
-    }
-    Number::Is((a - b'0') * 10 + (b - b'0'), p + 1)
+    let Some(b) = digit(s, one.end) else {
+        return Some(one);
+    };
+    Some(Parsed {
+        value: a * 10 + b,
+        end: at + 2,
+    })
 }
 
-// Fixed bytes at a place.
-pub fn word(s: &[u8], at: usize, w: &[u8]) -> Found
+// Fixed bytes at a place: the place after them.
+pub fn word(s: &[u8], at: usize, w: &[u8]) -> Option<usize>
     requires { at ≤ length s.now }
     ensures { found_tells s.now at (strip w.now (drop at s.now)) tt result }
 {
-    if s.len() - at < w.len() {
-        return Found::Missing;
+    if s[at..].starts_with(w) {
+        return Some(at + w.len());
     }
-    let mut k = 0;
-    while k < w.len() {
-        if s[at + k] != w[k] {
-            return Found::Missing;
-        }
-        k += 1;
-    }
-    Found::At(at + k)
+    None
 }
 
 // A number between fixed bytes: `w` before it, `v` after it.
-pub fn delimited_number(s: &[u8], at: usize, w: &[u8], v: &[u8]) -> Number
+pub fn delimited_number(s: &[u8], at: usize, w: &[u8], v: &[u8]) -> Option<Parsed<u8>>
     requires { at ≤ length s.now }
-    ensures { number_tells s.now at (delimited w.now v.now (drop at s.now)) result }
+    ensures { tells s.now at (delimited w.now v.now (drop at s.now)) result }
 {
-    let Found::At(p) = word(s, at, w) else {
-        return Number::Missing;
-    };
-    let Number::Is(x, q) = one_number(s, p) else {
-        return Number::Missing;
-    };
-    let Found::At(e) = word(s, q, v) else {
-        return Number::Missing;
-    };
-    Number::Is(x, e)
+    let start = word(s, at, w)?;
+    let number = one_number(s, start)?;
+    let end = word(s, number.end, v)?;
+    Some(Parsed {
+        value: number.value,
+        end,
+    })
 }

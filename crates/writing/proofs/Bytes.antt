@@ -1,22 +1,13 @@
--- Laws of writing bytes into lent bytes: a loop's turn, one byte, and two writes one after the other. Assumes nothing.
+-- Laws of writing bytes into lent bytes: one byte, and two writes one after the other. Assumes nothing.
 use mathlib.Core.Path.{◌≡◌, refl, sym, ap, ◌∙◌}
 use mathlib.Core.List.{List, [], ◌∷◌, ◌++◌, append_assoc}
 use Prim.Native.Nat.{ℕ, ◌+◌, ◌≤◌, ◌<◌}
 use native.Mathlib.Nat.{add-zero}
 use native.Mathlib.Numerals.{add-one}
 use native.Mathlib.Omega.{arith}
-use lib.ListN.{length, take, drop, get_or, set, length-append, take-append-drop}
-use lib.Seq.{take-length, length-take-le, take_at, drop_at, drop-drop, set_split, paste, paste-suc}
+use lib.ListN.{length, take, drop, set, length-append, take-append-drop}
+use lib.Seq.{length-take-le, take_at, drop_at, drop-drop, set_split}
 use Rattle.writing.specs.Written.{written, Puts}
-
--- a copy of all of w
-pub copied : (l m w : List ℕ) (at i : ℕ) → i ≡ length w → m ≡ paste l at w i → Puts l m at (at + length w) w
-unfolding written
-copied l m w at i e q = record { place = refl; bytes = q ∙ rw (e, take-length) (append_assoc (take at l) w (drop (at + length w) l)) }
-
--- the copy of one byte more
-pub copied_more : (l m w : List ℕ) (at i : ℕ) → at + length w ≤ length l → i < length w → m ≡ paste l at w i → set m (at + i) (get_or w i 0) ≡ paste l at w (i + 1)
-copied_more l m w at i h k q = rw (q, add-one) (paste-suc l at w i 0 (omega arith) k)
 
 -- nothing
 pub nothing : (l : List ℕ) (at : ℕ) → Puts l l at at []

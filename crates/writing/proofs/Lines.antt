@@ -7,7 +7,7 @@ use native.Mathlib.Nat.{le_refl}
 use native.Mathlib.Numerals.{add-one}
 use native.Mathlib.Omega.{arith}
 use lib.ListN.{length, take, drop, get_or, length-append, take-append-drop}
-use lib.Seq.{take-suc, take-take}
+use lib.Seq.{take-suc}
 use Rattle.gates.specs.declared.Gate.{Gate}
 use Rattle.gates.specs.declared.Gate.TheVariants.{Not, Powered}
 use Rattle.gates.specs.Code.{gates, Code}
@@ -103,11 +103,10 @@ unfolding gate_lines rendered
 more_lines i l h =
     rw (add-one, take-suc l i 0 h) (lines_append (take i l) (get_or l i 0 ∷ []) ∙ ap (λ (x : List ℕ). gate_lines (take i l) ++ x) (append-nil (render (gate (C.gate (get_or l i 0))))))
 
--- the lines of the first i codes are no longer than those of the first m
-pub lines_grow : (i m : ℕ) (l : List ℕ) → i ≤ m → length (gate_lines (take i l)) ≤ length (gate_lines (take m l))
-lines_grow i m l h =
-    let e : take m l ≡ take i l ++ drop i (take m l) = sym (take-append-drop i (take m l)) ∙ ap (λ (x : List ℕ). x ++ drop i (take m l)) (take-take i m l h) in
-    omega (arith, ap length (ap gate_lines e ∙ lines_append (take i l) (drop i (take m l))) ∙ length-append (gate_lines (take i l)) (gate_lines (drop i (take m l))))
+-- the lines of the first i codes are no longer than those of all
+pub lines_all : (i : ℕ) (l : List ℕ) → length (gate_lines (take i l)) ≤ length (gate_lines l)
+lines_all i l =
+    omega (arith, ap length (ap gate_lines (sym (take-append-drop i l)) ∙ lines_append (take i l) (drop i l)) ∙ length-append (gate_lines (take i l)) (gate_lines (drop i l)))
 
 -- the length of the lines of one code more
 pub lines_length : (i : ℕ) (l : List ℕ) → i < length l → length (gate_lines (take (i + 1) l)) ≡ length (gate_lines (take i l)) + length (render (gate (C.gate (get_or l i 0))))

@@ -1,4 +1,5 @@
-// The writer: a list of gate codes as a circuit text, and the two forms that the programs write beside it.
+// The writer: a list of gate codes as a circuit text, and the two forms that the programs write beside it. No `Display`: each part is put at a place
+// of the lent area, and gives the place behind it, which is what the contracts (`Puts`) say.
 #![tactic(auto)]
 
 ghost use Rattle.std.specs.Prelude.{◌≡◌, ◌∷◌, [], ◌++◌, ◌+◌, ◌≤◌, ◌<◌, length, take, drop};
@@ -15,13 +16,9 @@ pub fn put(out: &mut [u8], at: usize, bytes: &[u8]) -> usize
     requires { at + length bytes.now ≤ length out.old }
     ensures { Puts out.old out.new at result bytes.now }
 {
-    let n = bytes.len();
-    let mut i = 0;
-    while i < n {
-        out[at + i] = bytes[i];
-        i += 1;
-    }
-    at + n
+    let next = at + bytes.len();
+    out[at..next].copy_from_slice(bytes);
+    next
 }
 
 fn put_digit(out: &mut [u8], at: usize, d: usize) -> usize
@@ -73,21 +70,18 @@ pub fn put_two(out: &mut [u8], at: usize, opening: &[u8], m: usize, n: usize) ->
 }
 
 // A gate with a power, a control and a target, in this order.
+#[tactic(auto, using(crate::proofs::Lines::word_v, crate::proofs::Lines::word_cn, crate::proofs::Lines::word_vp))]
 fn put_powered(out: &mut [u8], at: usize, p: u8, c: usize, t: usize) -> usize
     requires le_p { (1 ≤ p) × (p ≤ 3) }
     requires t_in_bounds { at + length (two_numbers (word p) c t) ≤ length out.old }
     ensures { Puts out.old out.new at result (two_numbers (word p) c t) }
 {
-    if p == 1 {
-        let v = text::V;
-        return put_two(out, at, &v, c, t);
+    // Each word in a case of its own: copies whose length is known are faster than one of a word by its power.
+    match p {
+        1 => put_two(out, at, &text::V, c, t),
+        2 => put_two(out, at, &text::CN, c, t),
+        _ => put_two(out, at, &text::VP, c, t),
     }
-    if p == 2 {
-        let cn = text::CN;
-        return put_two(out, at, &cn, c, t);
-    }
-    let vp = text::VP;
-    put_two(out, at, &vp, c, t)
 }
 
 // A gate's line.
@@ -97,39 +91,33 @@ fn put_gate(out: &mut [u8], at: usize, g: Gate) -> usize
     ensures { Puts out.old out.new at result (render (gate g)) }
 {
     match g {
-        Gate::Not(t) => {
-            let not = text::NOT;
-            put_one(out, at, &not, t as usize)
-        }
+        Gate::Not(t) => put_one(out, at, &text::NOT, t as usize),
         Gate::Powered(p, c, t) => put_powered(out, at, p, c as usize, t as usize),
     }
 }
 
-// The lines of the first m codes of a list.
-fn put_gates(out: &mut [u8], at: usize, list: &[u16], m: usize) -> usize
-    requires m_in_bounds { (m ≤ length list.now) × AllCodes 32 (take m list.now) }
-    requires list_in_bounds { at + length (gate_lines (take m list.now)) ≤ length out.old }
-    ensures { Puts out.old out.new at result (gate_lines (take m list.now)) }
+// The lines of a list of codes.
+fn put_gates(out: &mut [u8], at: usize, codes: &[u16]) -> usize
+    requires all_codes { AllCodes 32 codes.now }
+    requires codes_in_bounds { at + length (gate_lines codes.now) ≤ length out.old }
+    ensures { Puts out.old out.new at result (gate_lines codes.now) }
 {
     let mut next = at;
-    let mut done = 0;
-    while done < m {
-        next = put_gate(out, next, gates::decode(list[done]));
-        done += 1;
+    for &code in codes {
+        next = put_gate(out, next, gates::decode(code));
     }
     next
 }
 
-// Writes the first m codes of a list as a circuit text at the front of the answer area, and gives the text's length.
-pub fn write_circuit(head: Head, list: &[u16], m: usize, answer: &mut [u8]) -> usize
-    requires lines_bound { (head.lines < 100) × (m ≤ length list.now) × AllCodes 32 (take m list.now) }
-    requires list_in_bounds { length (circuit_text head.lines (gates (take m list.now))) ≤ length answer.old }
-    ensures value { result ≡ length (circuit_text head.lines (gates (take m list.now))) }
-    ensures answer_after { answer.new ≡ circuit_text head.lines (gates (take m list.now)) ++ drop result answer.old }
+// Writes a list of codes as a circuit text at the front of the answer area, and gives the text's length.
+pub fn write_circuit(head: Head, codes: &[u16], answer: &mut [u8]) -> usize
+    requires lines_bound { (head.lines < 100) × AllCodes 32 codes.now }
+    requires codes_in_bounds { length (circuit_text head.lines (gates codes.now)) ≤ length answer.old }
+    ensures value { result ≡ length (circuit_text head.lines (gates codes.now)) }
+    ensures answer_after { answer.new ≡ circuit_text head.lines (gates codes.now) ++ drop result answer.old }
 {
-    let lines = text::LINES;
-    let next = put_one(answer, 0, &lines, head.lines as usize);
-    put_gates(answer, next, list, m)
+    let next = put_one(answer, 0, &text::LINES, head.lines as usize);
+    put_gates(answer, next, codes)
 }
 
 // The length of a number of one or two digits.
@@ -143,17 +131,16 @@ fn number_length(n: u8) -> usize
     1
 }
 
+#[tactic(auto, using(crate::proofs::Lines::word_v, crate::proofs::Lines::word_cn, crate::proofs::Lines::word_vp))]
 fn word_length(p: u8) -> usize
     requires { (1 ≤ p) × (p ≤ 3) }
     ensures { (result ≡ length (word p)) × (result ≤ 4) }
 {
-    if p == 1 {
-        return text::V.len();
+    match p {
+        1 => text::V.len(),
+        2 => text::CN.len(),
+        _ => text::VP.len(),
     }
-    if p == 2 {
-        return text::CN.len();
-    }
-    text::VP.len()
 }
 
 // The length of a gate's line.
@@ -167,26 +154,24 @@ fn gate_length(g: Gate) -> usize
     }
 }
 
-// The length of the lines of the first m codes of a list.
-fn gates_length(list: &[u16], m: usize) -> usize
-    requires { (m ≤ 4096) × (m ≤ length list.now) × AllCodes 32 (take m list.now) }
-    ensures { (result ≡ length (gate_lines (take m list.now))) × (result ≤ 65536) }
+// The length of the lines of a list of codes.
+fn gates_length(codes: &[u16]) -> usize
+    requires { (length codes.now ≤ 4096) × AllCodes 32 codes.now }
+    ensures { (result ≡ length (gate_lines codes.now)) × (result ≤ 65536) }
 {
     let mut total = 0;
-    let mut i = 0;
-    while i < m {
-        total += gate_length(gates::decode(list[i]));
-        i += 1;
+    for &code in codes {
+        total += gate_length(gates::decode(code));
     }
     total
 }
 
-// The length of the circuit text of the first m codes of a list.
-pub fn measure(head: Head, list: &[u16], m: usize) -> usize
-    requires { (head.lines < 100) × (m ≤ 4096) × (m ≤ length list.now) × AllCodes 32 (take m list.now) }
-    ensures { result ≡ length (circuit_text head.lines (gates (take m list.now))) }
+// The length of the circuit text of a list of codes.
+pub fn measure(head: Head, codes: &[u16]) -> usize
+    requires { (head.lines < 100) × (length codes.now ≤ 4096) × AllCodes 32 codes.now }
+    ensures { result ≡ length (circuit_text head.lines (gates codes.now)) }
 {
-    text::LINES.len() + number_length(head.lines) + 2 + gates_length(list, m)
+    text::LINES.len() + number_length(head.lines) + 2 + gates_length(codes)
 }
 
 // Writes the form `(turned-away r l)` at the front, and gives its length.

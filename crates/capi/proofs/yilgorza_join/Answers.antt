@@ -5,4 +5,4 @@ use Rattle.capi.proofs.yilgorza_join.Goals as goal
 pub returns : goal.returns
 returns c =
     let handed = c.join_codes-d in
-    told_text handed.ensures c.hand_over_text.ensures
+    told_text handed.ensures c.hand_over.ensures

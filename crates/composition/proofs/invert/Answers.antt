@@ -1,42 +1,24 @@
--- `invert` has inverted what stands before i and from j on. Assumes nothing.
-use borrow.Author.Rules.{rules}
-use mathlib.Core.Path.{refl}
-use Prim.Native.Nat.{◌-◌}
+-- `invert` has exchanged v and vp in the gates before the loop's place. Assumes nothing.
+use mathlib.Core.Path.{ap, ◌∙◌}
+use mathlib.Core.List.{map, reverse, append-nil}
+use Prim.Native.Nat.{◌≤◌}
 use native.Mathlib.Omega.{arith}
-use lib.Seq.{lt-length-set}
-use Rattle.gates.proofs.CodeLists.{code_in_front}
-use Rattle.composition.proofs.InPlace.{ends_start, ends_more, ends_all}
+use lib.ListN.{length, drop_of_length-le}
+use lib.Seq.{take_all}
+use Rattle.std.proofs.lemmas.List.{get_or_default}
+use Rattle.std.proofs.lemmas.List.Edits.{map_over_more}
+use Rattle.composition.proofs.Composed.{inverse_code, inverse_codes_reversed}
 use Rattle.composition.proofs.invert.Goals as goal
 
-pub loop-i-init : goal.loop-i-init
-loop-i-init c = let a = c.args in (omega arith, refl, ends_start a.list.now a.m)
-
-pub inverted-first-requires : goal.inverted-first-requires
-inverted-first-requires c =
-    let l = c.loop-i in
-    rw (l.invariant.2.between l.i (omega arith) (omega arith)) (code_in_front 32 c.args.list.now c.args.m l.i 0 (omega arith) (omega arith) c.requires.all_codes)
-
-pub inverted-requires : goal.inverted-requires
-inverted-requires c =
-    let l = c.loop-i in
-    rw (l.invariant.2.between (l.j - 1) (omega arith) (omega arith)) (code_in_front 32 c.args.list.now c.args.m (l.j - 1) 0 (omega arith) (omega arith) c.requires.all_codes)
-
-pub bounds-list-j-in-loop-i : goal.bounds-list-j-in-loop-i
-bounds-list-j-in-loop-i c = lt-length-set c.loop-i.list _ _ (omega arith)
-
-pub loop-i-preserved : goal.loop-i-preserved
-loop-i-preserved c =
-    let l = c.loop-i in
-    let a = c.args in
-    let first = c.inverted-first in
-    let last = c.inverted in (
-      omega arith,
-      search rules,
-      rw (first.ensures, last.ensures) (ends_more a.list.now a.m l.i l.j l.list (omega arith) l.invariant.0 (omega arith) l.invariant.2),
-    )
+pub loop-code-preserved : goal.loop-code-preserved
+loop-code-preserved c =
+    let l = c.loop-code in
+    rw c.inverted.ensures (map_over_more inverse_code _ _ _ _ (omega arith) l.invariant (get_or_default l.list l.code-index 0 _ (omega arith)))
 
 pub returns : goal.returns
 returns c =
-    let l = c.loop-i in
-    let a = c.args in
-    ends_all a.list.now a.m l.i l.j l.list (omega arith) l.invariant.1 (omega arith) l.invariant.2
+    let l = c.loop-code in
+    let k = c.args.list.now in
+    let h : length k ≤ l.code-index = omega arith in
+    let e = rw (take_all l.code-index k h, drop_of_length-le k h, append-nil (map inverse_code k)) at l.invariant in
+    c.reverse.ensures.after ∙ ap reverse e ∙ inverse_codes_reversed k

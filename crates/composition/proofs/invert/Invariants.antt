@@ -1,12 +1,9 @@
--- `invert` has inverted what stands before i and from j on. Assumes nothing.
+-- `invert` has exchanged v and vp in the gates before the loop's place. Assumes nothing.
 use mathlib.Core.Path.{◌≡◌}
-use Prim.Native.Nat.{◌+◌, ◌-◌}
-use lib.ListN.{length}
-use Rattle.composition.proofs.InPlace.{EndsInverted}
+use mathlib.Core.List.{◌++◌, map}
+use lib.ListN.{take, drop}
+use Rattle.composition.proofs.Composed.{inverse_code}
 use Rattle.composition.proofs.invert.Given as goal
 
-abbrev pub invariant-loop-i : goal.invariant-loop-i
-invariant-loop-i l = (l.i + l.j ≡ l.m) × (length l.list ≡ length l.initial.list) × EndsInverted l.initial.list l.m l.i l.j l.list
-
-abbrev pub decreases-loop-i : goal.decreases-loop-i
-decreases-loop-i l = l.j
+abbrev pub invariant-loop-code : goal.invariant-loop-code
+invariant-loop-code l = l.list ≡ map inverse_code (take l.code-index l.initial.list) ++ drop l.code-index l.initial.list

@@ -8,11 +8,11 @@ use Rattle.expansion.proofs.Halves.{mct_spares_of}
 use Rattle.expansion.proofs.Few.{any_spares}
 use Rattle.expansion.proofs.expand.Goals as goal
 
-pub expand_few-requires : goal.expand_few-requires
+pub expand_few-requires-clause-target_in_bounds : goal.expand_few-requires-clause-target_in_bounds
 unfolding expansion
-expand_few-requires c =
+expand_few-requires-clause-target_in_bounds c =
     let a = c.args in
-    record { controls_len_bound = omega (arith, c.if-controls-lt3.true); target_in_bounds = omega (arith, c.requires.target_in_bounds, ap length (any_spares (mct_spares a.lines (unpacked 32 0 a.kept) a.controls.now a.target) a.controls.now a.target (omega (arith, c.if-controls-lt3.true)))) }
+    omega (arith, c.requires.target_in_bounds, ap length (any_spares (mct_spares a.lines (unpacked 32 0 a.kept) a.controls.now a.target) a.controls.now a.target (omega (arith, c.if-controls-lt3.true))))
 
 pub returns-then-controls-lt3 : goal.returns-then-controls-lt3
 unfolding expansion
@@ -20,15 +20,14 @@ returns-then-controls-lt3 c =
     let a = c.args in
     rw (any_spares (mct_spares a.lines (unpacked 32 0 a.kept) a.controls.now a.target) a.controls.now a.target (omega (arith, c.if-controls-lt3.true))) c.expand_few.ensures
 
-pub unnamed-requires : goal.unnamed-requires
-unnamed-requires c = record { lines_bound = c.requires.lines_bound; target_lt_lines = c.requires.expandable.line; below = c.requires.below }
-
-pub expand_with-requires : goal.expand_with-requires
-unfolding expansion
-expand_with-requires c =
+pub expand_with-requires-clause-spares_of : goal.expand_with-requires-clause-spares_of
+expand_with-requires-clause-spares_of c =
     let a = c.args in
-    let u = c.unnamed in
-    record { spares_of = mct_spares_of a.lines (unpacked 32 0 a.kept) a.controls.now a.target u.result c.requires.lines_bound c.requires.expandable c.requires.below u.ensures; target_in_bounds = rw u.ensures.are c.requires.target_in_bounds }
+    mct_spares_of a.lines (unpacked 32 0 a.kept) a.controls.now a.target c.unnamed.result c.requires.lines_bound c.requires.expandable c.requires.below c.unnamed.ensures
+
+pub expand_with-requires-clause-target_in_bounds : goal.expand_with-requires-clause-target_in_bounds
+unfolding expansion
+expand_with-requires-clause-target_in_bounds c = rw c.unnamed.ensures.are c.requires.target_in_bounds
 
 pub returns : goal.returns
 unfolding expansion

@@ -12,15 +12,15 @@ nots-first-requires c =
     let a = c.args in
     omega (arith, c.requires.target_in_bounds, length_between a.negated.now (expansion a.lines (unpacked 32 0 a.kept) a.controls.now a.target))
 
-pub expand-end-requires : goal.expand-end-requires
-expand-end-requires c =
+pub expand-end-requires-clause-target_in_bounds : goal.expand-end-requires-clause-target_in_bounds
+expand-end-requires-clause-target_in_bounds c =
     let a = c.args in
-    record { lines_bound = c.requires.lines_bound; expandable = c.requires.expandable; below = c.requires.below; target_in_bounds = omega (arith, c.requires.target_in_bounds, c.nots-first.ensures.count, length_nots a.negated.now, length_between a.negated.now (expansion a.lines (unpacked 32 0 a.kept) a.controls.now a.target), c.list-1.given) }
+    omega (arith, c.requires.target_in_bounds, c.nots-first.ensures.count, length_nots a.negated.now, length_between a.negated.now (expansion a.lines (unpacked 32 0 a.kept) a.controls.now a.target))
 
 pub nots-requires : goal.nots-requires
 nots-requires c =
     let a = c.args in
-    omega (arith, c.requires.target_in_bounds, c.nots-first.ensures.count, c.expand-end.ensures.count, length_nots a.negated.now, length_between a.negated.now (expansion a.lines (unpacked 32 0 a.kept) a.controls.now a.target), c.list-1.given, c.list-2-1.given)
+    omega (arith, c.requires.target_in_bounds, c.nots-first.ensures.count, c.expand-end.ensures.count, length_nots a.negated.now, length_between a.negated.now (expansion a.lines (unpacked 32 0 a.kept) a.controls.now a.target))
 
 pub returns : goal.returns
 unfolding between_nots

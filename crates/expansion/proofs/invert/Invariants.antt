@@ -10,8 +10,5 @@ use Rattle.expansion.proofs.invert.Given as goal
 
 abbrev pub invariant-loop-i : goal.invariant-loop-i
 invariant-loop-i l =
-    (l.from ≤ l.i) × (l.i ≤ l.to) × (l.next ≡ l.at + (l.to - l.i)) × (length l.list ≡ length l.initial.list)
+    (l.from ≤ l.i) × (l.next ≡ l.at + (l.to - l.i)) × (length l.list ≡ length l.initial.list)
     × Written (inverse (gates (slice l.i l.to l.initial.list))) l.initial.list l.at l.list l.next
-
-abbrev pub decreases-loop-i : goal.decreases-loop-i
-decreases-loop-i l = l.i

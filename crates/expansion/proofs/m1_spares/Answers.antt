@@ -8,9 +8,6 @@ use Rattle.spares.specs.Spares.{listed}
 use Rattle.expansion.proofs.SpareLists.{slice_rest}
 use Rattle.expansion.proofs.m1_spares.Goals as goal
 
-pub followed-requires : goal.followed-requires
-followed-requires c = (omega arith, omega arith)
-
 pub returns : goal.returns
 unfolding listed
 returns c =

@@ -1,17 +1,21 @@
 -- `jobs::load_reduced` meets its contract. Assumes nothing.
 use native.Mathlib.Omega.{arith}
+use Rattle.std.proofs.lemmas.Result.{err_from_is_err_and}
 use Rattle.jobs.proofs.Handed.{reduces}
 use Rattle.jobs.proofs.load_reduced.Goals as goal
 
-pub returns-in_default : goal.returns-in_default
-returns-in_default c = let e = c.in_default.is in rw e (rw e at c.load_text-loaded.ensures)
+pub returns-in_err-loaded : goal.returns-in_err-loaded
+returns-in_err-loaded c =
+    let p = err_from_is_err_and c.from_residual.result c.from_residual.ensures.1 in
+    rw (p.1, p.2) c.in_err-loaded.ensures
 
-pub reduce-fewer-requires : goal.reduce-fewer-requires
-reduce-fewer-requires c =
-    let w = rw c.in-Accepted.is at c.load_text-loaded.ensures in
-    record { m_bound = (w.renderable.few, omega (arith, w.renderable.few, c.load_text-loaded.auto.codes, c.requires)); all_codes = w.renderable.codes }
+pub reduce_loaded-requires : goal.reduce_loaded-requires
+reduce_loaded-requires c =
+    let w = c.in_ok-loaded.ensures.renderable in
+    record { loaded_in_bounds = omega (arith, w.few, c.load_text.auto.codes, c.requires); renderable = w }
 
 pub returns : goal.returns
 returns c =
     let b = c.args in
-    reduces b.kind b.text.now b.room (rw c.in-Accepted.is at c.load_text-loaded.ensures) c.reduce-fewer.ensures
+    let y = c.reduce_loaded.ensures in
+    rw y.head (reduces b.kind b.text.now b.room c.in_ok-loaded.ensures y.reduced)

@@ -10,22 +10,22 @@ pub returns-in_default : goal.returns-in_default
 unfolding judge_at
 returns-in_default c =
     let a = c.args in
-    no_keep a.head.lines (drop a.at a.s.now) (gathered_none _ (rw c.in_default.is at c.read_keep-line.ensures))
+    no_keep a.head.lines (drop a.at a.s.now) (gathered_none _ (rw c.in_default.is at c.read_keep.ensures))
 
-pub returns-then-n-numbers : goal.returns-then-n-numbers
+pub returns-then-lines-numbers : goal.returns-then-lines-numbers
 unfolding judge_at
-returns-then-n-numbers c =
+returns-then-lines-numbers c =
     let a = c.args in
-    keep_outside a.head.lines (drop a.at a.s.now) (rw c.in-At.is at c.read_keep-line.ensures).0 c.requires.le_lines.0 (omega (arith, c.if-n-numbers.true))
+    keep_outside a.head.lines (drop a.at a.s.now) c.in-Some.ensures.0 c.requires.le_lines.0 (omega (arith, c.if-lines-numbers.true))
 
 pub returns-then-not-numbers : goal.returns-then-not-numbers
 unfolding judge_at
 returns-then-not-numbers c =
     let a = c.args in
-    keep_unsorted a.head.lines (drop a.at a.s.now) (rw c.in-At.is at c.read_keep-line.ensures).0 c.requires.le_lines.0 (omega (arith, c.if-n-numbers.false)) (not-true _ c.if-not-numbers.true)
+    keep_unsorted a.head.lines (drop a.at a.s.now) c.in-Some.ensures.0 c.requires.le_lines.0 (omega (arith, c.if-lines-numbers.false)) (not-true _ c.if-not-numbers.true)
 
 pub returns : goal.returns
 returns c =
     let a = c.args in
-    let e = rw c.in-At.is at c.read_keep-line.ensures in
-    rw c.packed-kept.ensures (has_keep a.head.lines a.s.now a.at e.0 c.requires.le_lines.0 c.requires.le_lines.1 (omega (arith, c.if-n-numbers.false)) (not-false _ c.if-not-numbers.false) e.2)
+    let e = c.in-Some.ensures in
+    rw c.packed-kept.ensures (has_keep a.head.lines a.s.now a.at e.0 c.requires.le_lines.0 c.requires.le_lines.1 (omega (arith, c.if-lines-numbers.false)) (not-false _ c.if-not-numbers.false) e.1.1)

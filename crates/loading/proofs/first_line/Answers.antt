@@ -1,10 +1,12 @@
 -- `loading::first_line` meets its contract. Assumes nothing.
-use Rattle.loading.proofs.Loading.{begun, refused_first}
+use Rattle.std.proofs.lemmas.Result.{err_from_is_err_and}
+use Rattle.loading.proofs.Loading.{begun}
 use Rattle.loading.proofs.first_line.Goals as goal
 
-pub returns-in-Head : goal.returns-in-Head
-returns-in-Head c = begun (rw c.in-Head.is at c.head_line.ensures)
+pub returns-in_err-head : goal.returns-in_err-head
+returns-in_err-head c =
+    let p = err_from_is_err_and c.from_residual.result c.from_residual.ensures.1 in
+    rw (p.1, p.2) c.in_err-head.ensures
 
-pub returns-in-Refused : goal.returns-in-Refused
-returns-in-Refused c =
-    rw c.refused.ensures (refused_first c.requires (rw c.in-Refused.is at c.head_line.ensures))
+pub returns : goal.returns
+returns c = begun c.in_ok-head.ensures

@@ -4,7 +4,7 @@ use Rattle.merging.proofs.Turning.{kept_removed, kept_there}
 use Rattle.merging.proofs.keep.Goals as goal
 
 pub returns-then-x-eq0 : goal.returns-then-x-eq0
-returns-then-x-eq0 c = let a = c.args in kept_removed a.list.now a.r a.x (omega (arith, c.if-x-eq0.true))
+returns-then-x-eq0 c = kept_removed _ _ _ (omega arith)
 
 pub returns : goal.returns
-returns c = let a = c.args in kept_there a.list.now a.r a.x c.requires.0 c.if-x-eq0.false
+returns c = kept_there _ _ _ (omega arith) c.if-x-eq0.false

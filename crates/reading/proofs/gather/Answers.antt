@@ -20,44 +20,25 @@ loop-c-init c =
     let y : c.no_controls-sum.result.negated.count ≡ 0 = ap (λ (x : Controls). x.negated.count) e in
     (omega arith, omega arith, omega arith, omega arith, (length (drop a.at s), rw (length-drop a.at s) (omega arith), rw e))
 
-pub note-sum-requires : goal.note-sum-requires
-note-sum-requires c =
-    let h = rw c.in-More.is at c.one_control.ensures in
-    omega arith
+pub returns-in_err-c : goal.returns-in_err-c
+returns-in_err-c c =
+    let v = c.loop-c.invariant.4 in
+    rw c.from_residual.ensures (v.2 ∙ rest_none c.args.s.now c.loop-c.sum v.0 c.loop-c.p c.in_err-c.ensures)
 
-pub loop-c-smaller : goal.loop-c-smaller
-loop-c-smaller c =
-    let h = rw c.in-More.is at c.one_control.ensures in
-    omega arith
+pub returns-then-not-more : goal.returns-then-not-more
+returns-then-not-more c =
+    let h = c.in_ok-c.ensures in
+    let v = c.loop-c.invariant.4 in
+    let w = rest_last c.args.s.now c.loop-c.sum c.in_ok-c.c.value v.0 c.loop-c.p c.in_ok-c.c.end h.0 c.if-not-more.true (omega (arith, h.1)) v.1 in
+    (rw c.note-sum.ensures (v.2 ∙ w), (omega (arith, h.1), omega (arith, h.1)))
 
 pub loop-c-preserved : goal.loop-c-preserved
 loop-c-preserved c =
-    let s = c.args.s.now in
-    let h = rw c.in-More.is at c.one_control.ensures in
+    let h = c.in_ok-c.ensures in
+    let x = c.in_ok-c.c.value in
     let v = c.loop-c.invariant.4 in
-    let w = rest_more s c.loop-c.sum v.0 c.loop-c.p c.in-More.q c.in-More.c h.0 (omega arith) v.1 in
+    let w = rest_more c.args.s.now c.loop-c.sum x v.0 c.loop-c.p c.in_ok-c.c.end h.0 c.if-not-more.false (omega (arith, h.1)) v.1 in
     let n = c.note-sum.ensures in
     let z : c.note-sum.result.lines.count ≡ c.loop-c.sum.lines.count + 1 = unfold noted added in ap (λ (x : Controls). x.lines.count) n in
-    let y : c.note-sum.result.negated.count ≤ c.loop-c.sum.negated.count + 1 = rw n (noted_few c.loop-c.sum c.in-More.c) in
-    (omega arith, omega arith, omega arith, omega arith, (w.0, omega (arith, w.1), rw n (v.2 ∙ w.2)))
-
-pub note-requires : goal.note-requires
-note-requires c =
-    let h = rw c.in-Last.is at c.one_control.ensures in
-    omega arith
-
-pub returns-in-Last : goal.returns-in-Last
-returns-in-Last c =
-    let s = c.args.s.now in
-    let h = rw c.in-Last.is at c.one_control.ensures in
-    let v = c.loop-c.invariant.4 in
-    let n = c.note.ensures in
-    let w = rest_last s c.loop-c.sum v.0 c.loop-c.p c.in-Last.q c.in-Last.c h.0 (omega arith) v.1 in
-    (rw n (v.2 ∙ w), omega arith, omega arith)
-
-pub returns-in-Missing : goal.returns-in-Missing
-returns-in-Missing c =
-    let s = c.args.s.now in
-    let h = rw c.in-Missing.is at c.one_control.ensures in
-    let v = c.loop-c.invariant.4 in
-    v.2 ∙ rest_none s c.loop-c.sum v.0 c.loop-c.p h
+    let y : c.note-sum.result.negated.count ≤ c.loop-c.sum.negated.count + 1 = rw n (noted_few c.loop-c.sum x.0) in
+    (omega (arith, h.1), omega (arith, h.1), omega (arith, h.1), omega (arith, h.1), (w.0, omega (arith, w.1, h.1), rw n (v.2 ∙ w.2)))

@@ -1,11 +1,8 @@
--- `store` has written the first i records, and goes up to the limit.
-use Rattle.std.proofs.Common.{◌-◌, ◌≡◌, ◌≤◌}
-use Rattle.records.specs.Records.{front}
+-- `store` has written the first i records. Assumes nothing.
+use Rattle.std.proofs.Common.{◌≡◌, length}
+use Rattle.records.specs.Records.{padded}
 use Rattle.records.proofs.Lists.{pasted}
 use Rattle.records.proofs.store.Given as goal
 
 abbrev pub invariant-loop-i : goal.invariant-loop-i
-invariant-loop-i l = (l.i ≤ l.limit) × (l.list ≡ pasted (front l.codes l.count l.limit) l.initial.list l.i)
-
-abbrev pub decreases-loop-i : goal.decreases-loop-i
-decreases-loop-i l = l.limit - l.i
+invariant-loop-i g l = l.list ≡ pasted (padded g.R.Record.of l.codes (length l.initial.list)) l.initial.list l.i

@@ -1,38 +1,24 @@
 -- `select` notes the next uses, opens the first runs and takes the gates. Assumes nothing.
 use native.Mathlib.Omega.{arith}
-use mathlib.Core.Path.{refl}
-use Rattle.selection.proofs.Ordering.{start_rest, start_numbers, start_left, start_state}
+use mathlib.Core.Path.{sym, ap, ◌∙◌}
+use lib.ListN.{length, take}
+use lib.Seq.{take-length}
+use Rattle.selection.proofs.Ordering.{rest_codes, start_numbers, start_left, start_state}
 use Rattle.selection.proofs.select.Goals as goal
 
-pub note_uses-requires : goal.note_uses-requires
-note_uses-requires c =
-    let q = c.requires in
-    let b = q.r_bound in
-    let list = c.args.list.now in
-    let left = c.args.left.now in
-    record {
-      numbers = start_numbers list left c.args.r b.1 b.0 q.all_codes q.left_value;
-      by_index = start_left list left c.args.r b.1 b.0 q.all_codes q.left_value;
-      r_in_bounds = (b.2, b.3);
-      opened_value = refl;
-    }
+pub note_uses-requires-clause-by_index : goal.note_uses-requires-clause-by_index
+note_uses-requires-clause-by_index c = start_left c.args.left.now c.requires.left_bound c.requires.all_codes
 
-pub open_all-requires : goal.open_all-requires
-open_all-requires c =
-    let q = c.requires in
-    let b = q.r_bound in
-    let list = c.args.list.now in
-    let left = c.args.left.now in
-    let n = start_numbers list left c.args.r b.1 b.0 q.all_codes q.left_value in
-    record {
-      numbers = n;
-      shortest = rw (start_rest list left c.args.r b.1 b.0 q.all_codes q.left_value) q.shortest;
-      state = start_state n (omega arith) (omega arith) c.note_uses.ensures;
-      running_value = refl;
-    }
+pub open_all-requires-clause-shortest : goal.open_all-requires-clause-shortest
+open_all-requires-clause-shortest c = rw (rest_codes c.args.left.now c.requires.all_codes) c.requires.shortest
 
-pub take_all-requires : goal.take_all-requires
-take_all-requires c =
-    let q = c.requires in
-    let b = q.r_bound in
-    record { prepared = c.open_all.ensures; r_in_bounds = (b.1, start_rest c.args.list.now c.args.left.now c.args.r b.1 b.0 q.all_codes q.left_value) }
+pub open_all-requires-clause-state : goal.open_all-requires-clause-state
+open_all-requires-clause-state c =
+    let n = start_numbers c.args.left.now c.requires.left_bound c.requires.all_codes in
+    rw c.new.ensures (start_state n (omega arith) (omega arith) c.note_uses.ensures)
+
+pub take_all-requires-clause-rest_value : goal.take_all-requires-clause-rest_value
+take_all-requires-clause-rest_value c =
+    let left = c.args.left.now in
+    let e = c.requires.left_value in
+    (omega (arith, ap (λ x. length x) e), rest_codes left c.requires.all_codes ∙ sym (take-length left) ∙ ap (λ x. take (length left) x) e)

@@ -1,53 +1,44 @@
--- `sliptext::more_digits` meets its contract. Assumes nothing.
-use mathlib.Core.Path.{◌≡◌, refl, ◌∙◌}
+-- `more_digits` reads digit after digit, up to three of them. Assumes nothing.
+use mathlib.Core.Path.{◌≡◌, ◌∙◌}
 use Prim.Native.Nat.{suc, ◌+◌, ◌-◌}
 use native.Mathlib.Omega.{arith}
-use lib.ListN.{drop, get_or}
-use Rattle.tokens.proofs.Places.{digit_low, digit_high}
-use Rattle.sliptext.proofs.Printed.{ten_zero, ten_next, below_1000, below_10000}
-use Rattle.sliptext.proofs.Places.{more_end, more_other, more_turn, more_done}
+use lib.ListN.{drop}
+use Rattle.sliptext.proofs.Printed.{ten_next, below_1000, below_10000}
+use Rattle.sliptext.proofs.Places.{more_ends, more_turn, more_done}
 use Rattle.sliptext.proofs.more_digits.Goals as goal
 
-pub loop-k-init : goal.loop-k-init
-loop-k-init c = (refl, omega arith, omega arith, omega arith, rw ten_zero c.requires.1)
-
-pub returns-then-s-p : goal.returns-then-s-p
-returns-then-s-p c =
+pub returns-in_default : goal.returns-in_default
+returns-in_default c =
     let a = c.args in
-    let v = c.loop-k in
-    ((v.invariant.0 ∙ more_end (3 - v.k) v.i a.s.now v.p (omega arith), (omega arith, omega arith)), below_10000 v.k v.i (omega arith) v.invariant.4)
+    let v = c.loop-end in
+    let q = rw c.in_default.is at c.digit.ensures in
+    ((v.invariant.0 ∙ more_ends (a.at + 4 - v.end) v.value a.s.now v.end q, (omega arith, omega arith)), below_10000 (v.end - (a.at + 1)) v.value (omega arith) v.invariant.2)
 
-pub returns-then-b-lt48 : goal.returns-then-b-lt48
-returns-then-b-lt48 c =
+pub overflow_mul-value : goal.overflow_mul-value
+overflow_mul-value c =
+    let v = c.loop-end in
+    omega (arith, below_1000 (v.end - (c.args.at + 1)) v.value (omega arith) v.invariant.2)
+
+pub overflow_add-value : goal.overflow_add-value
+overflow_add-value c =
+    let v = c.loop-end in
+    omega (arith, below_1000 (v.end - (c.args.at + 1)) v.value (omega arith) v.invariant.2)
+
+pub loop-end-preserved : goal.loop-end-preserved
+loop-end-preserved c =
     let a = c.args in
-    let v = c.loop-k in
-    ((v.invariant.0 ∙ more_other (3 - v.k) v.i a.s.now v.p (omega arith) (digit_low (get_or a.s.now v.p 0) (omega arith)), (omega arith, omega arith)), below_10000 v.k v.i (omega arith) v.invariant.4)
-
-pub returns-then-b-gt57 : goal.returns-then-b-gt57
-returns-then-b-gt57 c =
-    let a = c.args in
-    let v = c.loop-k in
-    ((v.invariant.0 ∙ more_other (3 - v.k) v.i a.s.now v.p (omega arith) (digit_high (get_or a.s.now v.p 0) (omega arith)), (omega arith, omega arith)), below_10000 v.k v.i (omega arith) v.invariant.4)
-
-pub overflow_mul-i : goal.overflow_mul-i
-overflow_mul-i c =
-    let v = c.loop-k in
-    omega (arith, below_1000 v.k v.i (omega arith) v.invariant.4)
-
-pub overflow_add-i : goal.overflow_add-i
-overflow_add-i c =
-    let v = c.loop-k in
-    omega (arith, below_1000 v.k v.i (omega arith) v.invariant.4)
-
-pub loop-k-preserved : goal.loop-k-preserved
-loop-k-preserved c =
-    let a = c.args in
-    let v = c.loop-k in
-    let e : v.k + 1 ≡ suc v.k = omega arith in
-    (v.invariant.0 ∙ more_turn v.k v.i a.s.now v.p (omega arith) (omega arith) (omega arith) (omega arith), omega arith, omega arith, omega arith, rw e (ten_next v.k v.i (get_or a.s.now v.p 0 - 48) v.invariant.4 (omega arith)))
+    let v = c.loop-end in
+    let d = c.in-Some.ensures in
+    let e : v.end + 1 - (a.at + 1) ≡ suc (v.end - (a.at + 1)) = omega arith in
+    rw (c.from.ensures, e) (
+      v.invariant.0 ∙ more_turn (a.at + 4 - v.end) (a.at + 4 - (v.end + 1)) v.value c.in-Some.d a.s.now v.end d (omega arith),
+      omega (arith, d.0),
+      ten_next (v.end - (a.at + 1)) v.value c.in-Some.d v.invariant.2 d.2,
+    )
 
 pub returns : goal.returns
 returns c =
     let a = c.args in
-    let v = c.loop-k in
-    ((v.invariant.0 ∙ more_done v.k v.i (drop v.p a.s.now) (omega arith), (omega arith, omega arith)), below_10000 v.k v.i (omega arith) v.invariant.4)
+    let v = c.loop-end in
+    let e : v.end ≡ a.at + 4 = omega arith in
+    (((rw e at v.invariant.0) ∙ more_done (a.at + 4 - (a.at + 4)) v.value (drop (a.at + 4) a.s.now) (omega arith), (omega arith, omega arith)), below_10000 (v.end - (a.at + 1)) v.value (omega arith) v.invariant.2)

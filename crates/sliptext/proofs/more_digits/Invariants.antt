@@ -1,4 +1,4 @@
--- `sliptext::more_digits` meets its contract. Assumes nothing.
+-- `more_digits` has read the digits before `end`. Assumes nothing.
 use mathlib.Core.Path.{◌≡◌}
 use Prim.Native.Nat.{◌+◌, ◌-◌, ◌≤◌, ◌<◌}
 use lib.ListN.{length, drop}
@@ -6,8 +6,5 @@ use Rattle.sliptext.specs.SlipText.{more}
 use Rattle.sliptext.proofs.Printed.{ten}
 use Rattle.sliptext.proofs.more_digits.Given as goal
 
-abbrev pub invariant-loop-k : goal.invariant-loop-k
-invariant-loop-k l = (more 3 l.first (drop (l.at + 1) l.s) ≡ more (3 - l.k) l.i (drop l.p l.s)) × (l.at < l.p) × (l.p ≤ length l.s) × (l.k ≤ 3) × (l.i < ten l.k)
-
-abbrev pub decreases-loop-k : goal.decreases-loop-k
-decreases-loop-k l = 3 - l.k
+abbrev pub invariant-loop-end : goal.invariant-loop-end
+invariant-loop-end l = (more 3 l.first (drop (l.at + 1) l.s) ≡ more (l.at + 4 - l.end) l.value (drop l.end l.s)) × (l.end ≤ length l.s) × (l.value < ten (l.end - (l.at + 1)))

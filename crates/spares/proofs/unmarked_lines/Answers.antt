@@ -1,17 +1,12 @@
 -- `unmarked_lines` goes up the lines, and keeps those that have no mark. Assumes nothing.
-use mathlib.Core.Path.{◌≡◌, refl, sym, ap, ◌∙◌}
-use Prim.Native.Nat.{◌-◌}
+use mathlib.Core.Path.{refl, sym, ap, ◌∙◌}
 use native.Mathlib.Omega.{arith}
 use lib.ListN.{length}
 use lib.Seq.{length-take-le}
-use borrow.Author.Rules.{rules}
 use Rattle.spares.specs.Spares.{listed}
 use Rattle.spares.proofs.Marked.{found_here, found_later, found_all}
 use Rattle.spares.proofs.unmarked_lines.Goals as goal
 use Rattle.std.proofs.lemmas.Grind.{common_steps}
-
-pub loop-i-init : goal.loop-i-init
-loop-i-init c = (search rules, search rules, search rules, let e : c.args.lines - 0 ≡ c.args.lines = omega arith in rw e)
 
 pub loop-i-preserved : goal.loop-i-preserved
 loop-i-preserved c = grind (arith, common_steps, found_here, found_later)
@@ -21,5 +16,5 @@ unfolding listed
 returns c =
     let a = c.args in
     let l = c.loop-i in
-    let e = found_all a.lines l.i l.count a.marks l.found (omega arith) l.invariant.3 in
+    let e = found_all a.lines l.i l.count a.marks l.found (omega arith) l.invariant.2 in
     record { starts = refl; ends = sym (length-take-le l.count l.found (omega arith)) ∙ ap length e; are = e }

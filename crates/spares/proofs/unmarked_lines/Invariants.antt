@@ -8,7 +8,4 @@ use Rattle.spares.proofs.unmarked_lines.Given as goal
 
 -- the lines found so far, and those that are still to come
 abbrev pub invariant-loop-i : goal.invariant-loop-i
-invariant-loop-i l = (length l.found ≡ 32) × (l.count ≤ l.i) × (l.i ≤ l.lines) × (take l.count l.found ++ unmarked (l.lines - l.i) l.i l.marks ≡ unmarked l.lines 0 l.marks)
-
-abbrev pub decreases-loop-i : goal.decreases-loop-i
-decreases-loop-i l = l.lines - l.i
+invariant-loop-i l = (length l.found ≡ 32) × (l.count ≤ l.i) × (take l.count l.found ++ unmarked (l.lines - l.i) l.i l.marks ≡ unmarked l.lines 0 l.marks)

@@ -3,35 +3,25 @@ use native.Mathlib.Omega.{arith}
 use Rattle.tokens.specs.Seen.{delimited}
 use Rattle.tokens.proofs.delimited_number.Goals as goal
 
-pub returns-in_default : goal.returns-in_default
+pub returns-in_err-start : goal.returns-in_err-start
 unfolding delimited
-returns-in_default c =
-    rw (rw c.in_default.is at c.word.ensures)
+returns-in_err-start c =
+    rw (c.from_residual.ensures, c.in_err-start.ensures)
 
-pub returns-in_default-one_number : goal.returns-in_default-one_number
+pub returns-in_err-number : goal.returns-in_err-number
 unfolding delimited
-returns-in_default-one_number c =
-    let i = rw c.in-At.is at c.word.ensures in
-    let j = rw c.in_default-one_number.is at c.one_number.ensures in
-    rw (i.0, j)
+returns-in_err-number c =
+    rw (c.from_residual-in_err-number.ensures, c.in_ok-start.ensures.0, c.in_err-number.ensures)
 
-pub word-requires-2 : goal.word-requires-2
-word-requires-2 c =
-    let j = rw c.in-Is.is at c.one_number.ensures in
-    j.1.1
-
-pub returns-in_default-word : goal.returns-in_default-word
+pub returns-in_err-end : goal.returns-in_err-end
 unfolding delimited
-returns-in_default-word c =
-    let i = rw c.in-At.is at c.word.ensures in
-    let j = rw c.in-Is.is at c.one_number.ensures in
-    let k = rw c.in_default-word.is at c.word-2.ensures in
-    rw (i.0, j.0, k)
+returns-in_err-end c =
+    rw (c.from_residual-in_err-end.ensures, c.in_ok-start.ensures.0, c.in_ok-number.ensures.0, c.in_err-end.ensures)
 
 pub returns : goal.returns
 unfolding delimited
 returns c =
-    let i = rw c.in-At.is at c.word.ensures in
-    let j = rw c.in-Is.is at c.one_number.ensures in
-    let k = rw c.in-At-word.is at c.word-2.ensures in
-    (rw (i.0, j.0, k.0), (omega arith, omega arith))
+    let i = c.in_ok-start.ensures in
+    let j = c.in_ok-number.ensures in
+    let k = c.in_ok-end.ensures in
+    (rw (i.0, j.0, k.0), (omega (arith, i, j, k), omega (arith, k)))

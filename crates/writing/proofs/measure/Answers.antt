@@ -1,6 +1,5 @@
 -- `measure` is the length of the circuit text. Assumes nothing.
 use native.Mathlib.Omega.{arith}
-use lib.ListN.{take}
 use Rattle.text.specs.Text.{bytes}
 use Rattle.writing.proofs.Lines.{circuit_length, length_one}
 use Rattle.writing.proofs.measure.Goals as goal
@@ -8,4 +7,4 @@ use Rattle.writing.proofs.measure.Goals as goal
 pub returns : goal.returns
 returns c =
     let n = c.args.head.lines in
-    omega (arith, circuit_length n (take c.args.m c.args.list.now) c.requires.0, length_one (bytes "(lines ") n)
+    omega (arith, circuit_length n c.args.codes.now c.requires.0, length_one (bytes "(lines ") n)

@@ -1,26 +1,18 @@
--- `put` copies the bytes to their place. The invariant: the first i bytes are copied, and the others are as they were. Assumes nothing.
+-- `put` copies the bytes to their place. Assumes nothing.
 use mathlib.Core.Path.{refl, ◌∙◌}
 use native.Mathlib.Omega.{arith}
-use lib.ListN.{length-set}
-use lib.Seq.{paste-zero}
-use Rattle.writing.proofs.Bytes.{copied, copied_more}
+use lib.ListN.{length}
+use Rattle.std.proofs.lemmas.Slice.{put_mid-paste}
+use Rattle.std.proofs.lemmas.List.Edits.{paste_all}
+use Rattle.writing.specs.Written.{written}
 use Rattle.writing.proofs.put.Goals as goal
 
-pub loop-i-init : goal.loop-i-init
-loop-i-init c = (omega arith, paste-zero c.args.out.now c.args.at c.args.bytes.now, refl)
-
-pub loop-i-preserved : goal.loop-i-preserved
-loop-i-preserved c =
-    let a = c.args in (
-      omega arith,
-      copied_more a.out.now c.loop-i.out a.bytes.now a.at c.loop-i.i c.requires (omega arith) c.loop-i.invariant.1,
-      length-set c.loop-i.out _ _ ∙ c.loop-i.invariant.2,
-    )
-
-pub shape_of-out : goal.shape_of-out
-shape_of-out c = c.loop-i.invariant.2
-
 pub returns : goal.returns
+unfolding written
 returns c =
     let a = c.args in
-    copied a.out.now c.loop-i.out a.bytes.now a.at c.loop-i.i (omega arith) c.loop-i.invariant.1
+    let w = a.bytes.now in
+    record {
+      place = refl;
+      bytes = put_mid-paste a.at _ a.out.now _ w (length w) c.copy_from_slice.ensures.after (omega arith) refl ∙ paste_all a.out.now a.at w (length w) refl;
+    }

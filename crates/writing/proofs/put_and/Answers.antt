@@ -6,12 +6,6 @@ use Rattle.writing.specs.Decimal.{decimal}
 use Rattle.writing.proofs.Bytes.{both}
 use Rattle.writing.proofs.put_and.Goals as goal
 
-pub put_number-next-requires : goal.put_number-next-requires
-put_number-next-requires c = omega arith
-
-pub put-requires : goal.put-requires
-put-requires c = omega arith
-
 pub returns : goal.returns
 returns c =
     let a = c.args in

@@ -7,10 +7,10 @@ pub put_one-requires : goal.put_one-requires
 put_one-requires c =
     rw (not_parts c.in-Not.is c.requires.proper).1 at c.requires.g_in_bounds
 
-pub put_powered-requires : goal.put_powered-requires
-put_powered-requires c =
+pub put_powered-requires-clause-t_in_bounds : goal.put_powered-requires-clause-t_in_bounds
+put_powered-requires-clause-t_in_bounds c =
     let w = powered_parts c.in-Powered.is c.requires.proper in
-    record { le_p = w.power; t_in_bounds = simp length_two (omega (arith, simp length_two at (rw w.line at c.requires.g_in_bounds))) }
+    simp length_two (omega (arith, simp length_two at (rw w.line at c.requires.g_in_bounds)))
 
 pub returns-in-Not : goal.returns-in-Not
 returns-in-Not c =

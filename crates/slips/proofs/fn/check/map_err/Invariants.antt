@@ -1,0 +1,6 @@
+-- The closure makes the refusal of a text that of text 1. Assumes nothing.
+use mathlib.Core.Path.{◌≡◌}
+use Rattle.slips.proofs.fn.check.map_err.Given as goal
+
+abbrev pub ensures : goal.ensures
+ensures l r = (r.refusal ≡ l.r.refusal) × (r.text ≡ 1) × (r.line ≡ l.r.line)
