@@ -18,12 +18,12 @@ use Rattle.text.specs.declared.Kind.TheVariants as kind
 use Rattle.text.specs.declared.Refusal.{Refusal}
 use Rattle.text.specs.declared.Refusal.TheVariants.{Overlong, ShortList, TooMany, DifferentLines}
 use Rattle.text.specs.Judging.{turned_away, rule, first, or_else, judge}
-use Rattle.habits.specs.Habits.{fine, away, ◌then◌, passes, require, size_rules, taken, Circuit, told, text_judged}
+use Rattle.habits.specs.Habits.{Judgement, fine, away, ◌then◌, passes, require, size_rules, taken, Circuit, told, text_judged}
 use Rattle.loading.specs.Loaded.{Renderable}
 use Rattle.loading.specs.Loaded as loading
 use Rattle.jobs.specs.Jobs.{judged_text}
 use Rattle.jobs.proofs.Habits.{judged_told}
-use Rattle.joins.specs.Join.{plain_join, judged, circuit_of, join_circuits, join_second, Accepts}
+use Rattle.joins.specs.Join.{plain_join, judged, circuit_of, join_circuits, Accepts}
 
 -- ---- two circuits
 
@@ -80,6 +80,10 @@ second_told t = go (ltb 60000 (length t))
     go : (b : Bool) → (passes (first (rule Overlong b ∷ [])) 2 0 then λ _. told 2 (judge kind.Circuit t)) ≡ told 2 (or_else (first (rule Overlong b ∷ rule ShortList false ∷ [])) 0 (judge kind.Circuit t))
     go true = refl
     go false = refl
+
+-- the join of one that was loaded with that of the text t
+unfoldable pub join_second : Head → ℕ → List ℕ → List ℕ → Judgement Circuit
+join_second g m codes t = text_judged 2 kind.Circuit t [] then λ d. plain_join (circuit_of g m codes) d
 
 module _ (g : Head) (m : ℕ) (codes t : List ℕ) where
   pub second_refused : {r : Refusal} {i : ℕ} → judged_text kind.Circuit t 4096 ≡ turned_away r i → join_second g m codes t ≡ away r 2 i

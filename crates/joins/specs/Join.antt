@@ -53,10 +53,6 @@ circuit_of h m codes = record { lines = h.lines; gates = gates (take m codes) }
 unfoldable pub join_circuits : Head → ℕ → List ℕ → Head → ℕ → List ℕ → Judgement Circuit
 join_circuits g m codes h n more = plain_join (circuit_of g m codes) (circuit_of h n more)
 
--- the join of one that was loaded with that of the text t
-unfoldable pub join_second : Head → ℕ → List ℕ → List ℕ → Judgement Circuit
-join_second g m codes t = text_judged 2 kind.Circuit t [] then λ d. plain_join (circuit_of g m codes) d
-
 -- an accepted join: its gates are those of the first m codes
 pub record Accepts (v : Judgement Circuit) (codes : List ℕ) (h : Head) (m : ℕ) : Type 0 where
   pub judged : v ≡ fine (circuit_of h m codes)
