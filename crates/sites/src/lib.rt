@@ -14,7 +14,41 @@ pub struct Site {
     pub slot: usize,
 }
 
-// A set of sites. Contracts see its 33 numbers.
+// Puts the site of target t and slot s into the set.
+pub fn insert(rows: &mut [u64], t: usize, s: usize)
+    requires t_bound { (t < 32) × (s < 33) }
+    requires sites { Sites rows.old }
+    ensures { Inserted rows.old (t * 33 + s) rows.new }
+{
+    rows[t] |= 1u64 << s;
+    rows[32] |= 1u64 << t;
+}
+
+// Takes the site of target t and slot s out of the set.
+pub fn remove(rows: &mut [u64], t: usize, s: usize)
+    requires t_bound { (t < 32) × (s < 33) }
+    requires sites { Sites rows.old }
+    requires has { Has rows.old (t * 33 + s) }
+    ensures { Removed rows.old (t * 33 + s) rows.new }
+{
+    rows[t] ^= 1u64 << s;
+    if rows[t] == 0 {
+        rows[32] ^= 1u64 << t;
+    }
+}
+
+// The lowest site in the set.
+pub fn lowest(rows: &[u64]) -> Site
+    requires sites { Sites rows.now }
+    requires by_index { (x : ℕ) × (x < 1056) × Has rows.now x }
+    ensures { Lowest rows.now result.target result.slot }
+{
+    let target = rows[32].trailing_zeros() as usize;
+    let slot = rows[target].trailing_zeros() as usize;
+    Site { target, slot }
+}
+
+// A set of sites of its own. Contracts see its 33 numbers.
 #[derive(Drop)]
 pub struct SiteSet {
     rows: [u64; 33],
@@ -41,8 +75,7 @@ impl SiteSet {
         requires site_bound { (site.target < 32) × (site.slot < 33) }
         ensures { Inserted self.old (site.target * 33 + site.slot) self.new }
     {
-        self.rows[site.target] |= 1u64 << site.slot;
-        self.rows[32] |= 1u64 << site.target;
+        insert(&mut self.rows, site.target, site.slot);
     }
 
     // Takes a site out of the set.
@@ -51,10 +84,7 @@ impl SiteSet {
         requires has { Has self.old (site.target * 33 + site.slot) }
         ensures { Removed self.old (site.target * 33 + site.slot) self.new }
     {
-        self.rows[site.target] ^= 1u64 << site.slot;
-        if self.rows[site.target] == 0 {
-            self.rows[32] ^= 1u64 << site.target;
-        }
+        remove(&mut self.rows, site.target, site.slot);
     }
 
     // The lowest site in the set.
@@ -62,8 +92,6 @@ impl SiteSet {
         requires { (x : ℕ) × (x < 1056) × Has self.now x }
         ensures { Lowest self.now result.target result.slot }
     {
-        let target = self.rows[32].trailing_zeros() as usize;
-        let slot = self.rows[target].trailing_zeros() as usize;
-        Site { target, slot }
+        lowest(&self.rows)
     }
 }

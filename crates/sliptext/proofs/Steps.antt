@@ -1,15 +1,18 @@
 -- The step of a slip line, read at a place of a text: its number. Assumes nothing.
 use mathlib.Core.Path.{◌≡◌, refl, sym, ◌∙◌}
 use mathlib.Core.List.{List}
-use Prim.Native.Nat.{ℕ, ◌+◌, ◌*◌, ◌/◌, ◌%◌}
+use Prim.Native.Nat.{ℕ, ◌+◌, ◌*◌, ◌/◌, ◌%◌, ◌≤◌}
 use native.Mathlib.Omega.{arith}
+use Rattle.std.specs.Prelude.{Some, None}
+use Rattle.std.specs.declared.option.Option.{Option}
+use Rattle.tokens.specs.declared.Parsed.{Parsed}
 use Rattle.text.specs.Text.{bytes}
 use Rattle.text.specs.Reading.{Got, got, none, bind, strip}
 use Rattle.text.proofs.Printed.{none_got, got_is}
 use Rattle.stepping.specs.Slip.{SlipStep, pass_at, merge_at}
 use Rattle.stepping.specs.Stepped.{slip_step}
 use Rattle.sliptext.specs.SlipText.{place, placed, slip_form}
-use Rattle.sliptext.specs.Seen.{closed_place}
+use Rattle.sliptext.specs.Seen.{closed_place, step_tells}
 
 -- ---- numbers of steps
 
@@ -83,3 +86,9 @@ after_none s p e = rw (p, e)
 
 -- a line, by its word and what stands behind
 pub ruleset by_word = (after_pass, after_pass_none, after_merge, after_merge_none, after_none)
+
+-- ---- the line from a place before it on
+
+pub step_further : (s : List ℕ) (at p : ℕ) (f g : Got SlipStep) (r : Option (Parsed ℕ)) → at ≤ p → f ≡ g → step_tells s p g r → step_tells s at f r
+step_further s at p f g (Some x) h e k = (e ∙ k.0, (omega (arith, k.1.0), k.1.1))
+step_further s at p f g None h e k = e ∙ k

@@ -7,9 +7,73 @@
 #![tactic(auto)]
 
 ghost use Rattle.std.specs.Prelude.{◌≡◌, List, ℕ, ◌+◌, ◌*◌, ◌/◌, ◌≤◌, ◌<◌, length, get_or, set};
-ghost use Rattle.stacks.specs.Stacks.{Falls, TopGate, Pulled};
+ghost use Rattle.stacks.specs.Stacks.{Falls, TopGate, Pulled, Stacked};
 ghost use Rattle.stacks.specs.Found.{Found};
 ghost use Rattle.stacks.specs.Holding.{IsEmpty, Holds, SameBelow};
+
+// The last gate that is still there in the stack from `top` on, plus 1, or 0.
+fn top_gate(list: &[u16], below: &[u16], top: u16) -> u16
+    requires top_in_bounds { (top ≤ length list.now) × (top ≤ length below.now) }
+    requires falls { Falls below.now top }
+    ensures { TopGate list.now below.now top result }
+{
+    let mut h = top;
+    while 0 < h {
+        let q = (h - 1) as usize;
+        if 0 < list[q] % 4 {
+            return h;
+        }
+        h = below[q];
+    }
+    h
+}
+
+// Pulls removed gates from the top of stack k, and gives its top.
+fn pull_removed(list: &[u16], tops: &mut [u16], below: &[u16], k: usize) -> u16
+    requires k_in_bounds { k < length tops.old }
+    requires top_in_bounds { (get_or tops.old k 0 ≤ length list.now) × (get_or tops.old k 0 ≤ length below.now) }
+    requires falls { Falls below.now (get_or tops.old k 0) }
+    ensures { Pulled list.now below.now k tops.old result tops.new }
+{
+    let top = top_gate(list, below, tops[k]);
+    tops[k] = top;
+    top
+}
+
+// Where the partner of g stands among the first n places, as the method below says it, in stacks that the caller has and need not have built here:
+// their tops are pulled, and what lies below a place is only read. The borrow checker covers no call in which a set of stacks that is itself lent
+// lends both of its slices, so the search stands here and there.
+pub fn find_partner(
+    list: &[u16],
+    sites: &mut [u16],
+    targets: &mut [u16],
+    controls: &mut [u16],
+    below_site: &[u16],
+    below_target: &[u16],
+    below_control: &[u16],
+    n: usize,
+    g: u16,
+) -> Option<usize>
+    requires n_in_bounds { (n ≤ length list.now) × (n ≤ 4096) × (g < 4224) }
+    requires stacked { Stacked list.now n sites.old targets.old controls.old below_site.now below_target.now below_control.now }
+    ensures found { Found list.now n g result }
+    ensures stacked_2 { Stacked list.now n sites.new targets.new controls.new below_site.now below_target.now below_control.now }
+{
+    let site = (g / 4) as usize;
+    let alike = pull_removed(list, sites, below_site, site);
+    if alike == 0 {
+        return None;
+    }
+    let changes = pull_removed(list, targets, below_target, site % 33);
+    if alike < changes {
+        return None;
+    }
+    let reads = pull_removed(list, controls, below_control, site / 33 + 1);
+    if alike < reads {
+        return None;
+    }
+    Some((alike - 1) as usize)
+}
 
 // A set of stacks: `tops` has, for each stack, the place on top plus 1, or 0 if it is empty; `below` has, for each place, the one below it in its
 // stack, in the same way. These are numbers and no Option, since `Stacked` speaks of them and `below` is lent as numbers.
@@ -44,15 +108,7 @@ impl<'a> StackSet<'a> {
         requires falls { Falls self.now.below.now (get_or self.now.tops.now k 0) }
         ensures { TopGate list.now self.now.below.now (get_or self.now.tops.now k 0) result }
     {
-        let mut h = self.tops[k];
-        while 0 < h {
-            let q = (h - 1) as usize;
-            if 0 < list[q] % 4 {
-                return h;
-            }
-            h = self.below[q];
-        }
-        h
+        top_gate(list, self.below, self.tops[k])
     }
 
     // Pulls removed gates from the top of stack k, and gives its top.
